@@ -1,0 +1,4 @@
+pub mod Kinds
+pub mod Money
+pub mod Weeks
+pub mod Lexicographic

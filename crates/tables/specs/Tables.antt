@@ -2,7 +2,7 @@
 use Prim.Native.Nat.{ℕ, _+_, _<_, _≤_}
 use mathlib.Core.Path.{_≡_}
 use mathlib.Core.List.{List, [], _∷_, _++_}
-use lib.ListN.{length, take, getD, set}
+use lib.ListN.{length, take, drop, getD, set}
 use Rattle.std.specs.declared.option.Option.{Option}
 use Rattle.std.specs.declared.option.Option.the-variants.{Some, None}
 use Rattle.std.specs.declared.result.Result.{Result}
@@ -14,6 +14,10 @@ use Rattle.tables.specs.declared.table.Table.{Table}
 -- the entries of a table, in order
 abbrev pub entries : {X : Type 0} {n : ℕ} → Table X n → List X
 entries t = take (t .len) (t .cells)
+
+-- the cells past the entries, which no call reads
+abbrev pub unused : {X : Type 0} {n : ℕ} → Table X n → List X
+unused t = drop (t .len) (t .cells)
 
 -- what is found at index i: entry i, whatever default the list is read with, or nothing past the end
 abbrev pub Found : {X : Type 0} → List X → ℕ → Option X → Type 0

@@ -2,7 +2,7 @@ ghost use mathlib.Core.Path.{_≡_};
 ghost use mathlib.Core.List.{[], _∷_};
 ghost use Prim.Native.Nat.{_≤_};
 ghost use lib.ListN.{length};
-ghost use Rattle.tables.specs.Tables.{entries, Found, Replaced, Added};
+ghost use Rattle.tables.specs.Tables.{entries, unused, Found, Replaced, Added};
 use super::super::refusal::Refusal;
 use super::Table;
 
@@ -45,7 +45,8 @@ impl<T: Copy, const N: usize> Table<T, N> {
 
     // Puts x in the place of entry i.
     pub fn set(&mut self, i: usize, x: T) -> Result<(), Refusal>
-        ensures { λ r. ⌜ Replaced (entries (now (self .entry))) (entries (now (self .exit))) i x r ⌝ }
+        ensures outcome { λ r. ⌜ Replaced (entries (now (self .entry))) (entries (now (self .exit))) i x r ⌝ }
+        ensures kept { λ _. ⌜ unused (now (self .exit)) ≡ unused (now (self .entry)) ⌝ }
     {
         if i < self.len {
             self.cells[i] = x;

@@ -21,7 +21,7 @@ impl<T: Copy, const N: usize> Table<T, N> {
         ensures count { λ r. ⌜ r ≡ length (entries (now (self .entry))) ⌝ }
         ensures bound { λ r. ⌜ r ≤ N ⌝ }
     {
-        self.len
+        self.as_slice().len()
     }
 
     // The entries themselves, to be gone through in order.

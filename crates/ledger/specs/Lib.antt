@@ -1,0 +1,4 @@
+pub mod Trades
+pub mod Ledgers
+pub mod Spellings
+pub mod Readings

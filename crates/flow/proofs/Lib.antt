@@ -1,0 +1,9 @@
+pub mod Group
+pub mod Sums
+pub mod Enough
+pub mod Holes
+pub mod Cuts
+pub mod Reach
+pub mod Shift
+pub mod Optimum
+pub mod Rows

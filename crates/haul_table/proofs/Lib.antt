@@ -1,0 +1,4 @@
+pub mod Admitting
+pub mod Checked
+pub mod Pushing
+pub mod Standing

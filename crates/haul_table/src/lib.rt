@@ -1,0 +1,2 @@
+// The haul table: a network that grows road by road.
+pub mod table;

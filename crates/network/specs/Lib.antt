@@ -1,0 +1,4 @@
+pub mod Networks
+pub mod Pushes
+pub mod Circulations
+pub mod Potentials

@@ -1,0 +1,11 @@
+pub mod Links
+pub mod Forests
+pub mod Sweeps
+pub mod Cycles
+pub mod Pushing
+pub mod Reading
+pub mod Working
+pub mod Idle
+pub mod Standing
+pub mod Beaten
+pub mod Clearing

@@ -1,0 +1,5 @@
+pub mod Outcomes
+pub mod Uses
+pub mod Links
+pub mod Sweeps
+pub mod Cycles

@@ -1,0 +1,12 @@
+pub mod Sums
+pub mod Holdings
+pub mod Each
+pub mod Nodes
+pub mod Split
+pub mod Rules
+pub mod Filled
+pub mod Places
+pub mod Networks
+pub mod Sizes
+pub mod Worths
+pub mod Best

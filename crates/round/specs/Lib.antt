@@ -1,0 +1,9 @@
+pub mod Kept
+pub mod Rounds
+pub mod Naming
+pub mod Holdings
+pub mod Offering
+pub mod Carried
+pub mod Closed
+pub mod Questions
+pub mod Uses

@@ -37,7 +37,7 @@ use Rattle.search.specs.Cycles.{Measured, Takes, taken}
 use Rattle.search.specs.Outcomes.{Improves}
 use Rattle.search.proofs.Cycles.{Walked, walked-all, walked-first, walked-next, walked-on}
 
--- a row of arcs with the flow of one changed
+-- a list of arcs with the flow of one changed
 put-arcs : List Arc → ℕ → ℕ → List Arc
 put-arcs ms j k = set ms j (with-flow k (arc-at ms j))
 
@@ -56,7 +56,7 @@ put-same : (ls ms : List Arc) (j k : ℕ) → j < length ls → Same-arcs ls ms 
 unfolding put-arcs
 put-same ls ms j k l s = record { long = s .long ∙ sym (length-set ms j (with-flow k (arc-at ms j))); each = λ i h. ⊎-elim (λ e. subst (λ y. Same-arc (arc-at ls y) (arc-at (put-arcs ms j k) y)) (sym e) (subst (Same-arc (arc-at ls j)) (sym (put-at ms j k (let q = s .long in omega arith))) (same-trans (arc-at ls j) (arc-at ms j) k (s .each j l)))) (λ d. subst (Same-arc (arc-at ls i)) (sym (put-off ms j k i d)) (s .each i h)) (cases-eq i j) }
 
--- a push that has room is not refused
+-- a push that the arc can take is not refused
 pub pushed-to : {A : Type 0} (before after : Net) (i : ℕ) (by : ℤ) (u : ℕ) (r : Result A Refusal) → Pushed before after i by r → i < length (before .arcs) → pos u ≡ pos (flow-in before i) +ℤ by → u ≤ arc-at (before .arcs) i .capacity → after ≡ put-flow before i u
 pushed-to before after i by u (Ok x) p l is h = p .outcome ∙ ap (put-flow before i) (sym (ap natAbs is))
 pushed-to before after i by u (Err e) p l is h =
@@ -78,7 +78,7 @@ minus-is f d x h l e =
 pub arcs-sound : (m : Net) (n : ℕ) (ls : List Arc) → Sound m → ls ≡ m .arcs → n ≡ m .nodes → Sound-arcs n ls
 arcs-sound m n ls s e f = subst₂ (λ k a. Sound-arcs k a) (sym f) (sym e) (s .each)
 
--- one more, or no more
+-- d for each step along an arc: one step more, or another arc
 one-more : (d f : ℕ) (b : Bool) → b ≡ true → d * (when b 1 + f) ≡ d + d * f
 one-more d f b e = ap (λ c. d * (when c 1 + f)) e ∙ mul-add d 1 f ∙ ap (λ t. t + d * f) (mul-one d)
 
@@ -96,7 +96,7 @@ module _ {W : Type 0} (G : Kind W) (n : ℕ) (ls : List Arc) (d : ℕ) where
   abbrev N : Graph W
   N = net (G .ops) n ls
 
-  -- one step more
+  -- the flows after one step more
   took-shift : (m : Net) (done : List Step) → Shifted N (flow-of ls) done d (flow-in m) → (t : Step) → Takes m d t → Shifted N (flow-of ls) (t ∷ done) d (flow-in (taken m d t))
   unfolding put-arcs
   took-shift m done sh (Forward j) v i h = ⊎-elim here there (cases-eq i j)

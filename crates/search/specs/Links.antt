@@ -14,7 +14,7 @@ use Rattle.flow.specs.Arcs.{arc-at, flow-of}
 use Rattle.flow.specs.Steps.{arc, either-way, Fresh}
 use Rattle.network.specs.Networks.{Sound-arc}
 
--- the arcs of a network of n nodes
+-- each is an arc of a network of n nodes
 abbrev pub Sound-arcs : ℕ → List Arc → Type 0
 Sound-arcs n ls = (i : ℕ) → i < length ls → Sound-arc n (arc-at ls i)
 

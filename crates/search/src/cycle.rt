@@ -12,7 +12,7 @@ use flow::step::Step;
 use worth::kind::Worth;
 
 // How much all steps of the cycle that `closing` closes can take, and what one unit along it gains.
-// The cycle is walked backward: from the closing step's tail up the links to its head.
+// The cycle is walked backward: from the closing step's tail up the links to its head, where the loop ends.
 pub(crate) fn measure<W: Worth>(arcs: &[Arc], links: &[Option<Step>], closing: Step) -> (u32, W)
     requires sound { ⌜ Sound-arcs (length (now links)) (now arcs) ⌝ }
     requires closes { ⌜ Closing ops (length (now links)) (now arcs) (now links) closing ⌝ }

@@ -26,7 +26,8 @@ fn push_step<N: Improvable>(net: &mut N, step: Step, amount: u32)
     }
 }
 
-// Moves an amount along the cycle that `closing` closes, of which one unit gains `total`; answers what the worth rises by.
+// Moves an amount along the cycle that `closing` closes, and answers what the worth rises by; one unit gains `total`.
+// The walk is that of `measure`.
 pub(crate) fn shift<N: Improvable>(
     net: &mut N,
     arcs: &[Arc],

@@ -10,3 +10,9 @@ pub mod Renders
 pub mod Finds
 pub mod Outcomes
 pub mod Recorded
+pub mod Nexts
+pub mod Steps
+pub mod Named
+pub mod Counted
+pub mod Gains
+pub mod Worded

@@ -58,9 +58,9 @@ pub(crate) fn first_side(row: &[u8]) -> Result<(Side, &[u8]), Refusal>
     let Some((word, rest)) = cut(row, b' ') else {
         return Err(Refusal::Layout);
     };
-    if word == b"give" {
+    if word == b"give".as_slice() {
         Ok((Side::Give, rest))
-    } else if word == b"get" {
+    } else if word == b"get".as_slice() {
         Ok((Side::Get, rest))
     } else {
         Err(Refusal::Layout)
@@ -71,9 +71,9 @@ pub(crate) fn first_side(row: &[u8]) -> Result<(Side, &[u8]), Refusal>
 pub(crate) fn is_week(word: &[u8]) -> Result<bool, Refusal>
     ensures { MatchResult result (λ b. word.now ≡ sort_word b) (λ e. (e ≡ Departs) × ((b : Bool) → word.now ≢ sort_word b)) }
 {
-    if word == b"week" {
+    if word == b"week".as_slice() {
         Ok(true)
-    } else if word == b"cash" {
+    } else if word == b"cash".as_slice() {
         Ok(false)
     } else {
         Err(Refusal::Layout)

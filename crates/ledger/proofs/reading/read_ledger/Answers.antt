@@ -8,8 +8,8 @@ use Rattle.ledger.proofs.reading.read_ledger.Goals as goal
 
 pub loop-rest-preserved : goal.loop-rest-preserved
 loop-rest-preserved c =
-    let h = c.in-default.ensures in
-    line_read c.args.text.now c.loop-rest.rest.now c.first-line.result.1.now _ (listed c.loop-rest.ledger) _ h.0 c.loop-rest.invariant c.first-line.ensures.split h.1 h.2
+    let h = c.in_default.ensures in
+    line_read c.args.text.now c.loop-rest.rest.now c.first_line.result.1.now _ (listed c.loop-rest.ledger) _ h.0 c.loop-rest.invariant c.first_line.ensures.split h.1 h.2
 
 pub returns : goal.returns
 returns c =

@@ -11,16 +11,16 @@ split : (b : ℕ) (xs : List ℕ) → 1 ≤ length xs → get_or xs 0 0 ≡ b �
 split b [] h e = absurd (omega arith)
 split b (x ∷ xs) h e = ap (λ w. w ∷ xs) e ∙ ap (λ w. b ∷ w) (sym (take_all _ xs (omega arith)))
 
-pub returns-in-err-n : goal.returns-in-err-n
-returns-in-err-n c =
-    let p = err_from_is_err_and c.from-residual.result c.from-residual.ensures.1 in
+pub returns-in_err-n : goal.returns-in_err-n
+returns-in_err-n c =
+    let p = err_from_is_err_and c.from_residual.result c.from_residual.ensures.1 in
     let e = split 45 c.args.bytes.now (search rules) (search rules) in
-    rw (p.1, p.2) (c.in-err-n.ensures.0, no_level _ _ e (λ n s. absurd (c.in-err-n.ensures.1 n s)))
+    rw (p.1, p.2) (c.in_err-n.ensures.0, no_level _ _ e (λ n s. absurd (c.in_err-n.ensures.1 n s)))
 
 pub returns-then-n-eq0 : goal.returns-then-n-eq0
 returns-then-n-eq0 c =
     let e = split 45 c.args.bytes.now (search rules) (search rules) in
-    (refl, no_level _ _ e (λ n s. one_number _ n _ s c.in-ok-n.ensures ∙ c.if-n-eq0.true))
+    (refl, no_level _ _ e (λ n s. one_number _ n _ s c.in_ok-n-in-45.ensures ∙ c.if-n-eq0.true))
 
 negated : (n : ℕ) → n < 10 ^ 13 → to_z w64 (of_z w64 (pos 0 -ℤ to_z w64 n)) ≡ neg_ℤ (pos n)
 negated n lt = omega (arith, ints)
@@ -28,21 +28,21 @@ negated n lt = omega (arith, ints)
 pub returns-else-n-eq0 : goal.returns-else-n-eq0
 returns-else-n-eq0 c =
     let e = split 45 c.args.bytes.now (search rules) (search rules) in
-    let n = c.in-ok-n.n in
-    let s = c.in-ok-n.ensures in
+    let n = c.in_ok-n-in-45.n in
+    let s = c.in_ok-n-in-45.ensures in
     subst (Spells signed _) (sym (negated n (below_digits 13 n s.1))) (level_from_minus _ _ n e c.if-n-eq0.false s)
 
-pub overflow-cast-result : goal.overflow-cast-result
-overflow-cast-result c = omega (arith, below_digits 13 c.in-ok-n.n c.in-ok-n.ensures.1)
+pub overflow_cast-result : goal.overflow_cast-result
+overflow_cast-result c = omega (arith, below_digits 13 c.in_ok-n-in-45.n c.in_ok-n-in-45.ensures.1)
 
-pub overflow-sub-result : goal.overflow-sub-result
-overflow-sub-result c = omega (arith, ints, below_digits 13 c.in-ok-n.n c.in-ok-n.ensures.1)
+pub overflow_sub-result : goal.overflow_sub-result
+overflow_sub-result c = omega (arith, ints, below_digits 13 c.in_ok-n-in-45.n c.in_ok-n-in-45.ensures.1)
 
-pub overflow-cast-result-in-default : goal.overflow-cast-result-in-default
-overflow-cast-result-in-default c = omega (arith, below_digits 13 c.in-ok-number.field-0 c.in-ok-number.ensures.1)
+pub overflow_cast-result-in_default : goal.overflow_cast-result-in_default
+overflow_cast-result-in_default c = omega (arith, below_digits 13 c.in_ok-number-in_default.field-0 c.in_ok-number-in_default.ensures.1)
 
-pub returns-in-ok-number : goal.returns-in-ok-number
-returns-in-ok-number c =
-    let n = c.in-ok-number.field-0 in
-    let s = c.in-ok-number.ensures in
+pub returns-in_ok-number : goal.returns-in_ok-number
+returns-in_ok-number c =
+    let n = c.in_ok-number.field-0 in
+    let s = c.in_ok-number.ensures in
     subst (Spells signed _) (sym (to_z_pos w64 n (omega (arith, below_digits 13 n s.1)))) s

@@ -13,7 +13,7 @@ loop-trade-preserved c =
     let k = c.args.offer in
     let ts = listed c.args.self.now in
     let i = c.loop-trade.trade-index in
-    let e = c.as-slice-trade-items.ensures in
+    let e = c.as_slice-trade-items.ensures in
     let within : i < length ts = omega (arith, ap length e) in
     let room : length (entries c.loop-trade.lines) + 1 ≤ 256 = omega (arith, ap length c.loop-trade.invariant, kept_few k (take i ts), length-take i ts, few c.args.self.now) in
     let same = ap (λ xs. get_or xs i blank) e in
@@ -21,7 +21,7 @@ loop-trade-preserved c =
       | then-trade-offer w ↦
           ap entries w.lines-is
           ∙ grew 256 _ _ _ _ w.push.ensures room
-          ∙ ap (λ xs. xs ++ get_or c.as-slice-trade-items.result.now i blank ∷ []) c.loop-trade.invariant
+          ∙ ap (λ xs. xs ++ get_or c.as_slice-trade-items.result.now i blank ∷ []) c.loop-trade.invariant
           ∙ ap (λ t. lines_of k (take i ts) ++ t ∷ []) same
           ∙ sym (kept_next k ts i within (sym (ap (λ t. t.offer) same) ∙ w.if-trade-offer.true))
       | else-trade-offer w ↦
@@ -37,4 +37,4 @@ invariant-of-result c =
 pub returns : goal.returns
 returns c =
     let ts = listed c.args.self.now in
-    c.loop-trade.invariant ∙ ap (lines_of c.args.offer) (take_all c.loop-trade.trade-index ts (omega (arith, ap length c.as-slice-trade-items.ensures, c.loop-trade-test.false)))
+    c.loop-trade.invariant ∙ ap (lines_of c.args.offer) (take_all c.loop-trade.trade-index ts (omega (arith, ap length c.as_slice-trade-items.ensures, c.loop-trade-test.false)))

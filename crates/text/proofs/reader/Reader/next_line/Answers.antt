@@ -5,15 +5,15 @@ use Rattle.text.proofs.Cuts.{no_first, first_once, rest_shorter}
 use Rattle.text.proofs.Faults.{ok_from_at, layout_fault}
 use Rattle.text.proofs.reader.Reader.next_line.Goals as goal
 
-pub returns-in-default : goal.returns-in-default
-returns-in-default c = record { fault = refl; none = λ x line rest f _. no_first c.in-default.ensures f; same = refl }
+pub returns-in_default : goal.returns-in_default
+returns-in_default c = record { fault = refl; none = λ x line rest f _. no_first c.in_default.ensures f; same = refl }
 
-pub returns-in-err-line : goal.returns-in-err-line
-returns-in-err-line c =
-    let p = err_from_is_err_and c.from-residual.result c.from-residual.ensures.1 in
+pub returns-in_err-line : goal.returns-in_err-line
+returns-in_err-line c =
+    let p = err_from_is_err_and c.from_residual.result c.from_residual.ensures.1 in
     let here = c.in-Some.ensures in
-    let h = layout_fault _ _ _ _ c.in-err-line.ensures c.read.ensures in
+    let h = layout_fault _ _ _ _ c.in_err-line.ensures c.read.ensures in
     rw (p.1, p.2) (record { fault = h.0; none = λ x line rest f s. h.1 x (subst (λ l. Says c.args.sort l x) (first_once f here).0 s); same = refl })
 
-pub invariant-of-self : goal.invariant-of-self
-invariant-of-self c = (omega (arith, rest_shorter c.in-Some.ensures), tt)
+pub invariant_of-self : goal.invariant_of-self
+invariant_of-self c = record { few = omega (arith, rest_shorter c.in-Some.ensures) }

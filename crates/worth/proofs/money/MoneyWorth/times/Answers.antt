@@ -26,8 +26,8 @@ fits z n h =
 passed : (z r : ℤ) (n : ℕ) → SFits w64 z → SFits w64 r → r ≡ pos n → to_z w64 (of_z w64 z) *ℤ to_z w64 (of_z w64 r) ≡ z *ℤ pos n
 passed z r n a b is = rw (to_z-of_z w64 z a, to_z-of_z w64 r b, is)
 
-pub overflow-mul-result : goal.overflow-mul-result
-overflow-mul-result c = rw (passed c.args.self.cents c.from.result c.args.n (search rules) (search rules) (search rules)) (fits c.args.self.cents c.args.n c.requires)
+pub overflow_mul-result : goal.overflow_mul-result
+overflow_mul-result c = rw (passed c.args.self.cents c.from.result c.args.n (search rules) (search rules) (search rules)) (fits c.args.self.cents c.args.n c.requires)
 
 pub returns : goal.returns
 returns c =

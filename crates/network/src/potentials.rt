@@ -9,7 +9,7 @@ use worth::kind::Worth;
 // Whether each of the first potentials has a size of at most 1,000,000.
 fn are_small<W: Worth>(potentials: &[W], count: u32) -> bool
     requires { count ≤ length potentials.now }
-    ensures { Decides result ((v : ℕ) → v < count → ops.size (potential ops potentials.now v) ≤ 1000000) }
+    ensures { Decides result ((v : ℕ) → v < count → W.ops.size (potential W.ops potentials.now v) ≤ 1000000) }
 {
     for v in 0..count as usize {
         if !potentials[v].is_within(1_000_000) {
@@ -22,8 +22,8 @@ fn are_small<W: Worth>(potentials: &[W], count: u32) -> bool
 // Whether the potentials at an arc's ends fit it.
 fn fit_arc<W: Worth>(arc: Arc, from: W, to: W) -> bool
     requires sound { (n : ℕ) × SoundArc n arc }
-    requires small { ops.size from ≤ 1000000 }
-    ensures { Decides result (FitsArc ops arc from to) }
+    requires small { W.ops.size from ≤ 1000000 }
+    ensures { Decides result (FitsArc W.ops arc from to) }
 {
     let reached = from.plus(W::unit(arc.price, arc.weeks));
     if arc.flow < arc.capacity && to.is_less(reached) {

@@ -8,7 +8,7 @@ use worth::kind::Worth;
 // The unit worth of an arc, taken flow times.
 fn arc_worth<W: Worth>(arc: Arc) -> W
     requires { (n : ℕ) × SoundArc n arc }
-    ensures { result ≡ ops.times arc.flow (ops.unit arc.price arc.weeks) }
+    ensures { result ≡ W.ops.times arc.flow (W.ops.unit arc.price arc.weeks) }
 {
     W::unit(arc.price, arc.weeks).times(arc.flow)
 }

@@ -3,7 +3,7 @@ use Rattle.flow.specs.declared.arc.Arc.{Arc}
 use Rattle.network.proofs.Reading.{sound_arc}
 use Rattle.network.proofs.Circulations.{can_count, count_more}
 use Rattle.network.proofs.circulation.add_flows.Goals as goal
-use Rattle.network.proofs.circulation.add_flows.Goals.{in-Ok, in-default}
+use Rattle.network.proofs.circulation.add_flows.Goals.{in-Ok, in_default}
 
 pub bounds-into-arc : goal.bounds-into-arc
 bounds-into-arc g c =
@@ -19,8 +19,8 @@ bounds-into-arc-in-Ok g c =
     let s = sound_arc n z c.loop-i.i c.in-Ok.arc c.in-Ok.ensures in
     omega (arith, s.to_in, z.few_nodes, c.requires.long.0, c.loop-i.auto.into)
 
-pub overflow-add-into : goal.overflow-add-into
-overflow-add-into g c =
+pub overflow_add-into : goal.overflow_add-into
+overflow_add-into g c =
     let n = g.N.Network.net c.args.net.now in
     let z = g.met.N.Network.sound c.args.net.now in
     let s = sound_arc n z c.loop-i.i c.in-Ok.arc c.in-Ok.ensures in
@@ -40,8 +40,8 @@ bounds-out-arc-in-Ok g c =
     let s = sound_arc n z c.loop-i.i c.in-Ok.arc c.in-Ok.ensures in
     omega (arith, s.from_in, z.few_nodes, c.requires.long.1, c.loop-i.auto.out)
 
-pub overflow-add-out : goal.overflow-add-out
-overflow-add-out g c =
+pub overflow_add-out : goal.overflow_add-out
+overflow_add-out g c =
     let n = g.N.Network.net c.args.net.now in
     let z = g.met.N.Network.sound c.args.net.now in
     let s = sound_arc n z c.loop-i.i c.in-Ok.arc c.in-Ok.ensures in
@@ -57,5 +57,5 @@ loop-i-preserved g c =
             count_more (λ a. a.to) n z c.loop-i.i w.in-Ok.arc w.in-Ok.ensures c.loop-i.into c.loop-i.invariant.0 c.match-arc.into w.into-is (omega (arith, s.to_in, z.few_nodes, c.requires.long.0, c.loop-i.auto.into)),
             count_more (λ a. a.from) n z c.loop-i.i w.in-Ok.arc w.in-Ok.ensures c.loop-i.out c.loop-i.invariant.1 c.match-arc.out w.out-is (omega (arith, s.from_in, z.few_nodes, c.requires.long.1, c.loop-i.auto.out)),
           )
-      | in-default w ↦ absurd (omega (arith, w.in-default.ensures.0, c.loop-i-test.true, c.counts-arcs.ensures.1))
+      | in_default w ↦ absurd (omega (arith, w.in_default.ensures.0, c.loop-i-test.true, c.counts-arcs.ensures.1))
     ]

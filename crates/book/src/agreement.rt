@@ -11,14 +11,14 @@ pub fn arcs_are_placed() -> u8
 
 // An allotment is allowed exactly when the flows that it fills the network with stay within the capacities and form a circulation.
 pub fn allowed_is_circulation<W: Worth>() -> u8
-    ensures { AllowedIsCirculation ops }
+    ensures { AllowedIsCirculation W.ops }
 {
     0
 }
 
 // Every circulation within the capacities is the filling of the allotment that it puts on the lines, which is allowed.
 pub fn circulation_is_filled<W: Worth>() -> u8
-    ensures circulation_is_filled { CirculationIsFilled ops }
+    ensures circulation_is_filled { CirculationIsFilled W.ops }
     ensures units { FillingKeepsUnits }
     ensures alike { AlikeAreFilledAlike }
 {
@@ -27,15 +27,15 @@ pub fn circulation_is_filled<W: Worth>() -> u8
 
 // An allowed allotment is best exactly when its flows are best, and then there are potentials that fit, each of size at most the number of nodes.
 pub fn best_is_best_circulation<W: Worth>() -> u8
-    ensures best_is_best_circulation { BestIsBestCirculation ops }
-    ensures potentials { BestHasPotentials ops }
+    ensures best_is_best_circulation { BestIsBestCirculation W.ops }
+    ensures potentials { BestHasPotentials W.ops }
 {
     0
 }
 
 // Flows that circulate within the capacities stand for an allowed allotment, which is best exactly when they are.
 pub fn network_stands_for<W: Worth>() -> u8
-    ensures { NetworkStandsFor ops }
+    ensures { NetworkStandsFor W.ops }
 {
     0
 }

@@ -12,9 +12,9 @@ use worth::kind::Worth;
 // The cycle is walked backward: from the closing step's tail up the links to its head, where the loop ends.
 pub(crate) fn measure<W: Worth>(arcs: &[Arc], links: &[Option<Step>], closing: Step) -> (u32, W)
     requires sound { SoundArcs (length links.now) arcs.now }
-    requires closes { Closing ops (length links.now) arcs.now links.now closing }
+    requires closes { Closing W.ops (length links.now) arcs.now links.now closing }
     requires fewer { length links.now ≤ 272 }
-    ensures { Measured ops (length links.now) arcs.now links.now closing result.0 result.1 }
+    ensures { Measured W.ops (length links.now) arcs.now links.now closing result.0 result.1 }
 {
     let mut x = tail(arcs, closing);
     let mut amount = residual(arcs, closing);

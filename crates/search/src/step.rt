@@ -46,7 +46,7 @@ pub(crate) fn residual(arcs: &[Arc], step: Step) -> u32
 pub(crate) fn gain<W: Worth>(arcs: &[Arc], step: Step) -> W
     requires known { arc_of step < length arcs.now }
     requires sound { (n : ℕ) × SoundArcs n arcs.now }
-    ensures { (n : ℕ) → result ≡ step_worth ops (net ops n arcs.now) step }
+    ensures { (n : ℕ) → result ≡ step_worth W.ops (net W.ops n arcs.now) step }
 {
     match step {
         Step::Forward(i) => W::unit(arcs[i].price, arcs[i].weeks),

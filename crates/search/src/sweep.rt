@@ -29,10 +29,10 @@ fn relax<W: Worth>(
     links: &mut [Option<Step>],
     step: Step,
 ) -> Relaxation
-    requires forest { Forest ops (length potentials.old) arcs.now potentials.old links.old }
-    requires small { Small ops 1000000 potentials.old }
+    requires forest { Forest W.ops (length potentials.old) arcs.now potentials.old links.old }
+    requires small { Small W.ops 1000000 potentials.old }
     requires known { arc_of step < length arcs.now }
-    ensures { Relaxed ops (length potentials.old) arcs.now potentials.old links.old potentials.new links.new step result }
+    ensures { Relaxed W.ops (length potentials.old) arcs.now potentials.old links.old potentials.new links.new step result }
 {
     if residual(arcs, step) == 0 {
         return Relaxation::Kept;
@@ -75,10 +75,10 @@ fn step_at(k: usize) -> Step
 
 // Relaxes each step once.
 fn sweep_once<W: Worth>(arcs: &[Arc], potentials: &mut [W], links: &mut [Option<Step>]) -> Sweep
-    requires forest { Forest ops (length potentials.old) arcs.now potentials.old links.old }
-    requires small { Small ops 999000 potentials.old }
+    requires forest { Forest W.ops (length potentials.old) arcs.now potentials.old links.old }
+    requires small { Small W.ops 999000 potentials.old }
     requires few { length arcs.now ≤ 448 }
-    ensures { Sweeps ops (length potentials.old) arcs.now potentials.old potentials.new links.new result }
+    ensures { Sweeps W.ops (length potentials.old) arcs.now potentials.old potentials.new links.new result }
 {
     let mut moved = false;
     for k in 0..2 * arcs.len() {
@@ -98,7 +98,7 @@ fn sweep_once<W: Worth>(arcs: &[Arc], potentials: &mut [W], links: &mut [Option<
 
 // All entries none.
 pub(crate) fn blank<W: Worth>(work: &mut [W])
-    ensures { (v : ℕ) → slice_index_or work.new v ops.none ≡ ops.none }
+    ensures { (v : ℕ) → slice_index_or work.new v W.ops.none ≡ W.ops.none }
 {
     for i in 0..work.len() {
         work[i] = W::none();
@@ -117,7 +117,7 @@ pub(crate) fn find_cycle<W: Worth>(
     requires unlinked { Unlinked links.old }
     requires few { length arcs.now ≤ 448 }
     requires fewer { length potentials.old ≤ 272 }
-    ensures { Found ops (length potentials.old) arcs.now potentials.new links.new result }
+    ensures { Found W.ops (length potentials.old) arcs.now potentials.new links.new result }
 {
     blank(potentials);
     for k in 0..potentials.len() {

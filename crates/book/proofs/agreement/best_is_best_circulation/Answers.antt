@@ -5,4 +5,4 @@ use Rattle.book.proofs.agreement.best_is_best_circulation.Goals as goal
 pub returns : goal.returns
 returns g c =
     let k = kind g.W.Worth.ops g.met.W.Worth.lawful in
-    record { 0 = best_is_best_circulation_lem k; potentials = best_has_potentials k }
+    record { best_is_best_circulation = best_is_best_circulation_lem k; potentials = best_has_potentials k }

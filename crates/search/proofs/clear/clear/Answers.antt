@@ -16,24 +16,24 @@ loop-rise-init g c = (
   g.met.N.Improvable.itself c.args.net.now,
 )
 
-pub returns-in-err-improve : goal.returns-in-err-improve
-returns-in-err-improve g c = absurd (not_short g.met.W.Worth.lawful (g.N.Network.net c.args.net.now) (g.N.Network.net c.loop-rise.net) (g.N.Network.net c.improve.new.net) c.args.work.now c.loop-rise.work c.improve.new.work c.loop-rise.sum c.loop-rise.invariant.0 c.improve.result c.in-err-improve.field-0.0 c.in-err-improve.was c.improve.ensures.outcome)
+pub returns-in_err-improve : goal.returns-in_err-improve
+returns-in_err-improve g c = absurd (not_short g.met.W.Worth.lawful (g.N.Network.net c.args.net.now) (g.N.Network.net c.loop-rise.net) (g.N.Network.net c.improve.new.net) c.args.work.now c.loop-rise.work c.improve.new.work c.loop-rise.sum c.loop-rise.invariant.0 c.improve.result c.in_err-improve.field-0.0 c.in_err-improve.was c.improve.ensures.outcome)
 
 pub returns-in-Best : goal.returns-in-Best
 returns-in-Best g c = record {
-  outcome = ended g.met.W.Worth.lawful (g.N.Network.net c.args.net.now) (g.N.Network.net c.loop-rise.net) (g.N.Network.net c.improve.new.net) c.args.work.now c.loop-rise.work c.improve.new.work c.loop-rise.sum c.loop-rise.invariant.0 c.in-ok-improve.field-0 c.in-Best.is c.in-ok-improve.ensures.outcome;
+  outcome = ended g.met.W.Worth.lawful (g.N.Network.net c.args.net.now) (g.N.Network.net c.loop-rise.net) (g.N.Network.net c.improve.new.net) c.args.work.now c.loop-rise.work c.improve.new.work c.loop-rise.sum c.loop-rise.invariant.0 c.in_ok-improve.field-0 c.in-Best.is c.in_ok-improve.ensures.outcome;
   kept = g.met.N.Improvable.onward _ _ _ c.loop-rise.invariant.1 c.improve.ensures.kept;
   law = law_holds g.met.W.Worth.lawful;
 }
 
 pub plus-sum-requires : goal.plus-sum-requires
-plus-sum-requires g c = can_add g.met.W.Worth.lawful (g.N.Network.net c.args.net.now) (g.N.Network.net c.loop-rise.net) (g.N.Network.net c.improve.new.net) c.args.work.now c.loop-rise.work c.improve.new.work c.loop-rise.sum c.loop-rise.invariant.0 c.in-ok-improve.field-0 c.in-Rise.rise c.in-Rise.is c.in-ok-improve.ensures.outcome (g.met.N.Network.sound c.args.net.now) (g.met.N.Network.sound c.loop-rise.net) (g.met.N.Network.sound c.improve.new.net)
+plus-sum-requires g c = can_add g.met.W.Worth.lawful (g.N.Network.net c.args.net.now) (g.N.Network.net c.loop-rise.net) (g.N.Network.net c.improve.new.net) c.args.work.now c.loop-rise.work c.improve.new.work c.loop-rise.sum c.loop-rise.invariant.0 c.in_ok-improve.field-0 c.in-Rise.rise c.in-Rise.is c.in_ok-improve.ensures.outcome (g.met.N.Network.sound c.args.net.now) (g.met.N.Network.sound c.loop-rise.net) (g.met.N.Network.sound c.improve.new.net)
 
 pub loop-rise-smaller : goal.loop-rise-smaller
-loop-rise-smaller g c = fewer_left g.met.W.Worth.lawful (g.N.Network.net c.args.net.now) (g.N.Network.net c.loop-rise.net) (g.N.Network.net c.improve.new.net) c.args.work.now c.loop-rise.work c.improve.new.work c.loop-rise.sum c.loop-rise.invariant.0 c.in-ok-improve.field-0 c.in-Rise.rise c.in-Rise.is c.in-ok-improve.ensures.outcome (g.met.N.Network.sound c.improve.new.net)
+loop-rise-smaller g c = fewer_left g.met.W.Worth.lawful (g.N.Network.net c.args.net.now) (g.N.Network.net c.loop-rise.net) (g.N.Network.net c.improve.new.net) c.args.work.now c.loop-rise.work c.improve.new.work c.loop-rise.sum c.loop-rise.invariant.0 c.in_ok-improve.field-0 c.in-Rise.rise c.in-Rise.is c.in_ok-improve.ensures.outcome (g.met.N.Network.sound c.improve.new.net)
 
 pub loop-rise-preserved : goal.loop-rise-preserved
 loop-rise-preserved g c = (
-  goes_on g.met.W.Worth.lawful (g.N.Network.net c.args.net.now) (g.N.Network.net c.loop-rise.net) (g.N.Network.net c.improve.new.net) c.args.work.now c.loop-rise.work c.improve.new.work c.loop-rise.sum c.loop-rise.invariant.0 c.in-ok-improve.field-0 c.in-Rise.rise c.in-Rise.is c.in-ok-improve.ensures.outcome c.plus-sum.result c.plus-sum.ensures,
+  goes_on g.met.W.Worth.lawful (g.N.Network.net c.args.net.now) (g.N.Network.net c.loop-rise.net) (g.N.Network.net c.improve.new.net) c.args.work.now c.loop-rise.work c.improve.new.work c.loop-rise.sum c.loop-rise.invariant.0 c.in_ok-improve.field-0 c.in-Rise.rise c.in-Rise.is c.in_ok-improve.ensures.outcome c.plus-sum.result c.plus-sum.ensures,
   g.met.N.Improvable.onward _ _ _ c.loop-rise.invariant.1 c.improve.ensures.kept,
 )

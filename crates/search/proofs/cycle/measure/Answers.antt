@@ -3,7 +3,7 @@ use Rattle.flow.specs.Groups.{kind}
 use Rattle.search.specs.Links.{onto}
 use Rattle.search.proofs.Cycles.{walked_link, measuring_first, measuring_fits, measuring_next, measuring_all}
 use Rattle.search.proofs.cycle.measure.Goals as goal
-use Rattle.search.proofs.cycle.measure.Goals.{else-loop-k-test, then-loop-k-test+then-x-head, then-loop-k-test+else-x-head+in-default}
+use Rattle.search.proofs.cycle.measure.Goals.{else-loop-k-test, then-loop-k-test+then-x-head, then-loop-k-test+else-x-head+in_default}
 
 pub loop-k-init : goal.loop-k-init
 loop-k-init g c =
@@ -33,5 +33,5 @@ returns g c =
     elim c.loop-k-test.branch [
       | else-loop-k-test w ↦ absurd (let l = m.walked.short in let k = w.loop-k-test.false in omega arith)
       | then-loop-k-test+then-x-head w ↦ measuring_all (kind g.W.Worth.ops g.met.W.Worth.lawful) (length c.args.links.now) c.args.arcs.now c.requires.sound c.args.links.now c.args.closing z.linked z c.loop-k.x c.loop-k.k c.loop-k.amount c.loop-k.total c.requires.fewer m w.head.result w.head.ensures w.if-x-head.true
-      | then-loop-k-test+else-x-head+in-default w ↦ absurd (walked_link (length c.args.links.now) c.args.arcs.now c.args.links.now c.args.closing (onto z.trail (c.args.closing ∷ [])) c.loop-k.x c.loop-k.k m.walked w.head.result w.head.ensures w.if-x-head.false w.in-default.is)
+      | then-loop-k-test+else-x-head+in_default w ↦ absurd (walked_link (length c.args.links.now) c.args.arcs.now c.args.links.now c.args.closing (onto z.trail (c.args.closing ∷ [])) c.loop-k.x c.loop-k.k m.walked w.head.result w.head.ensures w.if-x-head.false w.in_default.is)
     ]

@@ -10,8 +10,8 @@ returns-then-work-n g c = record {
   law = law_holds g.met.W.Worth.lawful;
 }
 
-pub improve-within-requires : goal.improve-within-requires
-improve-within-requires g c =
+pub improve_within-requires : goal.improve_within-requires
+improve_within-requires g c =
     let net = g.N.Network.net c.args.net.now in
     let sound = g.met.N.Network.sound c.args.net.now in
     let n = c.counts-nodes.result.0 in
@@ -20,9 +20,9 @@ improve-within-requires g c =
     let f = c.counts-nodes.ensures.1 in
     record {
       worked = part_long c.args.work.now n net.nodes e c.if-work-n.false;
-      tabled = part_long c.no-arcs-table.result m (length net.arcs) f (let l = c.no-arcs-table.ensures in let few = sound.few_arcs in omega arith);
-      linked = part_long c.no-links-links.result n net.nodes e (let l = c.no-links-links.ensures.long in let few = sound.few_nodes in omega arith);
-      unlinked = λ v. part_none c.no-links-links.result (n - 0) v c.no-links-links.ensures.unlinked;
+      tabled = part_long c.no_arcs-table.result m (length net.arcs) f (let l = c.no_arcs-table.ensures in let few = sound.few_arcs in omega arith);
+      linked = part_long c.no_links-links.result n net.nodes e (let l = c.no_links-links.ensures.long in let few = sound.few_nodes in omega arith);
+      unlinked = λ v. part_none c.no_links-links.result (n - 0) v c.no_links-links.ensures.unlinked;
     }
 
 pub returns : goal.returns
@@ -32,7 +32,7 @@ returns g c =
     let e = c.counts-nodes.ensures.0 in
     let z = c.if-work-n.false in
     record {
-      outcome = widened g.W.Worth.ops net (g.met.N.Network.sound c.args.net.now) c.args.work.now c.improve-within.new.work (n - 0) (omega arith) (omega arith) (c.improve-within.auto.work ∙ part_long c.args.work.now n (n - 0) (omega arith) z) (g.N.Network.net c.improve-within.new.net) _ c.improve-within.result c.improve-within.ensures.outcome;
-      kept = c.improve-within.ensures.kept;
+      outcome = widened g.W.Worth.ops net (g.met.N.Network.sound c.args.net.now) c.args.work.now c.improve_within.new.work (n - 0) (omega arith) (omega arith) (c.improve_within.auto.work ∙ part_long c.args.work.now n (n - 0) (omega arith) z) (g.N.Network.net c.improve_within.new.net) _ c.improve_within.result c.improve_within.ensures.outcome;
+      kept = c.improve_within.ensures.kept;
       law = law_holds g.met.W.Worth.lawful;
     }

@@ -13,10 +13,10 @@ returns-in-None g c =
     let o = g.W.Worth.ops in
     let before = g.N.Network.net c.args.net.now in
     let work = c.args.work.now in
-    let row = c.find-cycle.new.potentials in
+    let row = c.find_cycle.new.potentials in
     let found = c.in-None.ensures in
-    let fits = subst (λ ls. Fits o (net o (length work) ls) (potential o row) (flow_of ls)) c.read-arcs.ensures found.0 in
-    let long = c.find-cycle.auto.potentials in
+    let fits = subst (λ ls. Fits o (net o (length work) ls) (potential o row) (flow_of ls)) c.read_arcs.ensures found.0 in
+    let long = c.find_cycle.auto.potentials in
     record {
       outcome = (
         refl {a = before},
@@ -29,6 +29,6 @@ returns-in-None g c =
 
 pub returns-in-Some : goal.returns-in-Some
 returns-in-Some g c = record {
-  outcome = (c.shift-rise.ensures.rises, λ v h. c.blank.ensures v, beyond_none g.W.Worth.ops (g.N.Network.net c.args.net.now).nodes c.args.work.now c.blank.new.work c.requires.worked (c.blank.auto.work ∙ c.find-cycle.auto.potentials));
+  outcome = (c.shift-rise.ensures.rises, λ v h. c.blank.ensures v, beyond_none g.W.Worth.ops (g.N.Network.net c.args.net.now).nodes c.args.work.now c.blank.new.work c.requires.worked (c.blank.auto.work ∙ c.find_cycle.auto.potentials));
   kept = c.shift-rise.ensures.kept;
 }

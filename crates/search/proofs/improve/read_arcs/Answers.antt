@@ -3,10 +3,10 @@ use Rattle.std.proofs.lemmas.List.{ext_get_or}
 use Rattle.flow.specs.Arcs.{blank}
 use Rattle.search.proofs.Reading.{read_more}
 use Rattle.search.proofs.improve.read_arcs.Goals as goal
-use Rattle.search.proofs.improve.read_arcs.Goals.{in-Ok, in-default}
+use Rattle.search.proofs.improve.read_arcs.Goals.{in-Ok, in_default}
 
-pub overflow-cast-i : goal.overflow-cast-i
-overflow-cast-i g c =
+pub overflow_cast-i : goal.overflow_cast-i
+overflow_cast-i g c =
     let f = (g.met.N.Network.sound c.args.net.now).few_arcs in
     let p = c.requires in
     let t = c.loop-i-test.true in
@@ -15,7 +15,7 @@ overflow-cast-i g c =
 pub loop-i-preserved : goal.loop-i-preserved
 loop-i-preserved g c = elim c.match-arc.branch [
   | in-Ok w ↦ read_more c.loop-i.table c.match-arc.table (g.N.Network.net c.args.net.now).arcs c.loop-i.i w.in-Ok.arc w.table-is (let k = c.loop-i.auto.table in let t = c.loop-i-test.true in omega arith) w.in-Ok.ensures.1 c.loop-i.invariant
-  | in-default w ↦ absurd (let k = w.in-default.ensures.0 in let t = c.loop-i-test.true in let p = c.requires in omega arith)
+  | in_default w ↦ absurd (let k = w.in_default.ensures.0 in let t = c.loop-i-test.true in let p = c.requires in omega arith)
 ]
 
 pub returns : goal.returns

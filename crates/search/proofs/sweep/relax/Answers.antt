@@ -18,10 +18,10 @@ passes-requires g c =
 
 pub returns-then-passes : goal.returns-then-passes
 returns-then-passes g c =
-    let offered : Offered (kind g.W.Worth.ops g.met.W.Worth.lawful) (length c.args.potentials.now) c.args.arcs.now c.args.potentials.now c.args.step c.residual.result c.tail-from.result c.head_to.result c.index-potentials-from.result c.index-potentials-to.result c.gain.result c.plus-offered.result = record { known = c.requires.known; left_is = c.residual.ensures; some = c.if-residual-eq0.false; from_is = c.tail-from.ensures; to_is = c.head_to.ensures; x_is = c.index-potentials-from.is; y_is = c.index-potentials-to.is; w_is = c.gain.ensures (length c.args.potentials.now); o_is = c.plus-offered.ensures; more = c.if-not-is-less.ensures } in
-    (refl {a = c.args.links.now}, closed (kind g.W.Worth.ops g.met.W.Worth.lawful) (length c.args.potentials.now) c.args.arcs.now c.args.potentials.now c.args.links.now c.requires.forest c.args.step c.residual.result c.tail-from.result c.head_to.result c.index-potentials-from.result c.index-potentials-to.result c.gain.result c.plus-offered.result offered c.passes.result c.passes.ensures c.if-passes.true)
+    let offered : Offered (kind g.W.Worth.ops g.met.W.Worth.lawful) (length c.args.potentials.now) c.args.arcs.now c.args.potentials.now c.args.step c.residual.result c.tail-from.result c.head-to.result c.index-potentials-from.result c.index-potentials-to.result c.gain.result c.plus-offered.result = record { known = c.requires.known; left_is = c.residual.ensures; some = c.if-residual-eq0.false; from_is = c.tail-from.ensures; to_is = c.head-to.ensures; x_is = c.index-potentials-from.is; y_is = c.index-potentials-to.is; w_is = c.gain.ensures (length c.args.potentials.now); o_is = c.plus-offered.ensures; more = c.if-not-is_less.ensures } in
+    (refl {a = c.args.links.now}, closed (kind g.W.Worth.ops g.met.W.Worth.lawful) (length c.args.potentials.now) c.args.arcs.now c.args.potentials.now c.args.links.now c.requires.forest c.args.step c.residual.result c.tail-from.result c.head-to.result c.index-potentials-from.result c.index-potentials-to.result c.gain.result c.plus-offered.result offered c.passes.result c.passes.ensures c.if-passes.true)
 
 pub returns : goal.returns
 returns g c =
-    let offered : Offered (kind g.W.Worth.ops g.met.W.Worth.lawful) (length c.args.potentials.now) c.args.arcs.now c.args.potentials.now c.args.step c.residual.result c.tail-from.result c.head_to.result c.index-potentials-from.result c.index-potentials-to.result c.gain.result c.plus-offered.result = record { known = c.requires.known; left_is = c.residual.ensures; some = c.if-residual-eq0.false; from_is = c.tail-from.ensures; to_is = c.head_to.ensures; x_is = c.index-potentials-from.is; y_is = c.index-potentials-to.is; w_is = c.gain.ensures (length c.args.potentials.now); o_is = c.plus-offered.ensures; more = c.if-not-is-less.ensures } in
-    raised (kind g.W.Worth.ops g.met.W.Worth.lawful) (length c.args.potentials.now) c.args.arcs.now c.args.potentials.now c.args.links.now c.requires.forest c.args.step c.residual.result c.tail-from.result c.head_to.result c.index-potentials-from.result c.index-potentials-to.result c.gain.result c.plus-offered.result offered c.passes.result c.passes.ensures c.if-passes.false
+    let offered : Offered (kind g.W.Worth.ops g.met.W.Worth.lawful) (length c.args.potentials.now) c.args.arcs.now c.args.potentials.now c.args.step c.residual.result c.tail-from.result c.head-to.result c.index-potentials-from.result c.index-potentials-to.result c.gain.result c.plus-offered.result = record { known = c.requires.known; left_is = c.residual.ensures; some = c.if-residual-eq0.false; from_is = c.tail-from.ensures; to_is = c.head-to.ensures; x_is = c.index-potentials-from.is; y_is = c.index-potentials-to.is; w_is = c.gain.ensures (length c.args.potentials.now); o_is = c.plus-offered.ensures; more = c.if-not-is_less.ensures } in
+    raised (kind g.W.Worth.ops g.met.W.Worth.lawful) (length c.args.potentials.now) c.args.arcs.now c.args.potentials.now c.args.links.now c.requires.forest c.args.step c.residual.result c.tail-from.result c.head-to.result c.index-potentials-from.result c.index-potentials-to.result c.gain.result c.plus-offered.result offered c.passes.result c.passes.ensures c.if-passes.false

@@ -7,7 +7,7 @@ pub returns-then-work-n : goal.returns-then-work-n
 returns-then-work-n g c = record {
   outcome = record { short = let e = c.counts-nodes.ensures.0 in let t = c.if-work-n.true in omega arith; numbered = refl; same = refl {a = g.N.Network.net c.args.net.now}; kept = refl {a = c.args.work.now} };
   kept = g.met.N.Improvable.itself c.args.net.now;
-  law = law_holds g.met.W.Worth.lawful;
+  law = law_holds g.met.N.W.Worth.lawful;
 }
 
 pub improve_within-requires : goal.improve_within-requires
@@ -32,7 +32,7 @@ returns g c =
     let e = c.counts-nodes.ensures.0 in
     let z = c.if-work-n.false in
     record {
-      outcome = widened g.W.Worth.ops net (g.met.N.Network.sound c.args.net.now) c.args.work.now c.improve_within.new.work (n - 0) (omega arith) (omega arith) (c.improve_within.auto.work ∙ part_long c.args.work.now n (n - 0) (omega arith) z) (g.N.Network.net c.improve_within.new.net) _ c.improve_within.result c.improve_within.ensures.outcome;
+      outcome = widened g.N.W.Worth.ops net (g.met.N.Network.sound c.args.net.now) c.args.work.now c.improve_within.new.work (n - 0) (omega arith) (omega arith) (c.improve_within.auto.work ∙ part_long c.args.work.now n (n - 0) (omega arith) z) (g.N.Network.net c.improve_within.new.net) _ c.improve_within.result c.improve_within.ensures.outcome;
       kept = c.improve_within.ensures.kept;
-      law = law_holds g.met.W.Worth.lawful;
+      law = law_holds g.met.N.W.Worth.lawful;
     }

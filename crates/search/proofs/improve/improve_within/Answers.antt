@@ -10,7 +10,7 @@ use Rattle.search.proofs.improve.improve_within.Goals as goal
 
 pub returns-in-None : goal.returns-in-None
 returns-in-None g c =
-    let o = g.W.Worth.ops in
+    let o = g.N.W.Worth.ops in
     let before = g.N.Network.net c.args.net.now in
     let work = c.args.work.now in
     let row = c.find_cycle.new.potentials in
@@ -22,13 +22,13 @@ returns-in-None g c =
         refl {a = before},
         record { enough = let q = c.requires.worked in omega arith; fits = fits; small = λ v h. found.1 v },
         beyond_none o before.nodes work row c.requires.worked long,
-        no_cycle (kind o g.met.W.Worth.lawful) (graph o before) (potential o row) (flow_in before) fits,
+        no_cycle (kind o g.met.N.W.Worth.lawful) (graph o before) (potential o row) (flow_in before) fits,
       );
       kept = g.met.N.Improvable.itself c.args.net.now;
     }
 
 pub returns-in-Some : goal.returns-in-Some
 returns-in-Some g c = record {
-  outcome = (c.shift-rise.ensures.rises, λ v h. c.blank.ensures v, beyond_none g.W.Worth.ops (g.N.Network.net c.args.net.now).nodes c.args.work.now c.blank.new.work c.requires.worked (c.blank.auto.work ∙ c.find_cycle.auto.potentials));
+  outcome = (c.shift-rise.ensures.rises, λ v h. c.blank.ensures v, beyond_none g.N.W.Worth.ops (g.N.Network.net c.args.net.now).nodes c.args.work.now c.blank.new.work c.requires.worked (c.blank.auto.work ∙ c.find_cycle.auto.potentials));
   kept = c.shift-rise.ensures.kept;
 }

@@ -20,13 +20,13 @@ hit k b o e = ap (λ c. option_map (λ n. k + n) (cond c (Some 0) (option_map (�
 pass : (k : ℕ) (b : Bool) (o : Option ℕ) → b ≡ false → option_map (λ n. k + n) (cond b (Some 0) (option_map (λ n. 1 + n) o)) ≡ option_map (λ n. (k + 1) + n) o
 pass k b o e = ap (λ c. option_map (λ n. k + n) (cond c (Some 0) (option_map (λ n. 1 + n) o))) e ∙ mapped_more k o
 
-pub returns-then-is-holding : goal.returns-then-is-holding
-returns-then-is-holding c =
+pub returns-then-is_holding : goal.returns-then-is_holding
+returns-then-is_holding c =
     let xs = c.args.holdings.now in
     let k = c.loop-k.k in
     let m = c.args.member in
     let i = c.args.item in
-    sym (hit k c.is-holding.result (spot_of (drop (k + 1) xs) m i) c.if-is-holding.true) ∙ sym (left xs k m i c.is-holding.result (omega arith) c.is-holding.ensures) ∙ c.loop-k.invariant
+    sym (hit k c.is_holding.result (spot_of (drop (k + 1) xs) m i) c.if-is_holding.true) ∙ sym (left xs k m i c.is_holding.result (omega arith) c.is_holding.ensures) ∙ c.loop-k.invariant
 
 pub loop-k-preserved : goal.loop-k-preserved
 loop-k-preserved c =
@@ -34,7 +34,7 @@ loop-k-preserved c =
     let k = c.loop-k.k in
     let m = c.args.member in
     let i = c.args.item in
-    sym (pass k c.is-holding.result (spot_of (drop (k + 1) xs) m i) c.if-is-holding.false) ∙ sym (left xs k m i c.is-holding.result (omega arith) c.is-holding.ensures) ∙ c.loop-k.invariant
+    sym (pass k c.is_holding.result (spot_of (drop (k + 1) xs) m i) c.if-is_holding.false) ∙ sym (left xs k m i c.is_holding.result (omega arith) c.is_holding.ensures) ∙ c.loop-k.invariant
 
 pub returns : goal.returns
 returns c = ap (option_map (λ n. c.loop-k.k + n)) (sym (at_drop_all (λ ys. spot_of ys c.args.member c.args.item) c.args.holdings.now c.loop-k.k (omega arith))) ∙ c.loop-k.invariant

@@ -16,9 +16,9 @@ loop-i-preserved c =
 copied : (xs s : List ℕ) (i : ℕ) → take i xs ≡ take i s → i ≡ length s → take (length s) xs ≡ s
 copied xs s i h e = ap (λ n. take n xs) (sym e) ∙ h ∙ take_all i s (omega arith)
 
-pub invariant-of-result : goal.invariant-of-result
-invariant-of-result c =
-    (c.loop-i.invariant.0, (omega arith, tt))
+pub invariant_of-result : goal.invariant_of-result
+invariant_of-result c =
+    record { full = c.loop-i.invariant.0; few = omega arith }
 
 pub returns : goal.returns
 returns c = copied c.loop-i.bytes c.args.s.now c.loop-i.i c.loop-i.invariant.1 (omega arith)

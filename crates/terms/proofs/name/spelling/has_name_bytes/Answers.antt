@@ -3,8 +3,8 @@ use Rattle.std.proofs.lemmas.List.{at_drop_more, at_drop_all}
 use Rattle.book.specs.Spelling.{name_byte, name_bytes}
 use Rattle.terms.proofs.name.spelling.has_name_bytes.Goals as goal
 
-pub returns-then-not-is-name-byte : goal.returns-then-not-is-name-byte
-returns-then-not-is-name-byte c =
+pub returns-then-not-is_name_byte : goal.returns-then-not-is_name_byte
+returns-then-not-is_name_byte c =
     let s = c.args.s.now in
     let i = c.loop-b.b-index in
     let e : name_bytes (drop i s) ≡ (name_byte (get_or s i 0) && name_bytes (drop (i + 1) s)) = at_drop_more name_bytes s i 0 (omega arith) in

@@ -17,7 +17,7 @@ returns-then-eq c =
     let i = c.loop-name.name-index in
     let l : i < length xs = omega arith in
     let same = (slice_eq-Decides Decides-eqb _ _ _ c.eq.ensures).0 c.if-eq.true in
-    (λ _. (i, omega (arith, length-map xs letters), λ d. read xs i c.name-item.result l c.name-item.is d ∙ sym c.as-slice.ensures ∙ same), λ _. refl)
+    (λ _. (i, omega (arith, length-map xs letters), λ d. read xs i c.name-item.result l c.name-item.is d ∙ sym c.as_slice.ensures ∙ same), λ _. refl)
 
 pub loop-name-preserved : goal.loop-name-preserved
 loop-name-preserved c =
@@ -25,7 +25,7 @@ loop-name-preserved c =
     let i = c.loop-name.name-index in
     let l : i < length xs = omega arith in
     below_more _ _ c.loop-name.invariant
-    (λ h. not_from_Decides _ (slice_eq-Decides Decides-eqb _ _ _ c.eq.ensures) c.if-eq.false (c.as-slice.ensures ∙ sym (read xs i c.name-item.result l c.name-item.is []) ∙ h []))
+    (λ h. not_from_Decides _ (slice_eq-Decides Decides-eqb _ _ _ c.eq.ensures) c.if-eq.false (c.as_slice.ensures ∙ sym (read xs i c.name-item.result l c.name-item.is []) ∙ h []))
 
 pub returns : goal.returns
 returns c =

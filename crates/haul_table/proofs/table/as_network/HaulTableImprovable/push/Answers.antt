@@ -12,12 +12,12 @@ pushed-requires g c =
     let s = found_sound 64 (entries c.args.self.now.arcs) c.args.arc c.in-Some.found c.args.self.now.sound c.in-Some.ensures in
     (omega arith, s.small)
 
-pub invariant-of-self : goal.invariant-of-self
-invariant-of-self g c =
+pub invariant_of-self : goal.invariant_of-self
+invariant_of-self g c =
     let arcs = entries c.args.self.now.arcs in
     let s = found_sound 64 arcs c.args.arc c.in-Some.found c.args.self.now.sound c.in-Some.ensures in
     let t : SoundArc 64 c.with_flow.result = subst (SoundArc 64) (sym c.with_flow.ensures) (reflow_sound 64 c.in-Some-pushed.flow c.in-Some.found s c.in-Some-pushed.ensures.1) in
-    (replaced_sound 64 arcs (entries c.set.new.self) c.args.arc c.with_flow.result c.set.result c.set.ensures.outcome c.args.self.now.sound t, tt)
+    record { sound = replaced_sound 64 arcs (entries c.set.new.self) c.args.arc c.with_flow.result c.set.result c.set.ensures.outcome c.args.self.now.sound t }
 
 pub returns : goal.returns
 returns g c =

@@ -18,7 +18,7 @@ returns g c =
       refused = next (λ p. omega (arith, gives.known)) refl;
       answer = (
         to_z-of_z w64 c.difference-money.result fits ∙ c.difference-money.ensures
-            ∙ ap₂ (λ x y. pos x -ℤ pos y) (c.total-price.ensures.sum ∙ side_sum (λ l n. l.price * n) b a k Get _ _ gets) (c.total-price-2.ensures.sum ∙ side_sum (λ l n. l.price * n) b a k Give _ _ gives),
-        c.total-weeks.ensures ∙ side_sum (λ l n. cond (eqb l.item 0) 0 n) b a k Get _ _ gets,
+            ∙ ap₂ (λ x y. pos x -ℤ pos y) (c.total_price.ensures.sum ∙ side_sum (λ l n. l.price * n) b a k Get _ _ gets) (c.total_price-2.ensures.sum ∙ side_sum (λ l n. l.price * n) b a k Give _ _ gives),
+        c.total_weeks.ensures ∙ side_sum (λ l n. cond (eqb l.item 0) 0 n) b a k Get _ _ gets,
       );
     }

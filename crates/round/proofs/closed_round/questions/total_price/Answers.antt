@@ -5,8 +5,8 @@ use Rattle.book.specs.Allotments.{price_of}
 use Rattle.round.proofs.Sides.{price_more}
 use Rattle.round.proofs.closed_round.questions.total_price.Goals as goal
 
-pub overflow-add-sum : goal.overflow-add-sum
-overflow-add-sum c =
+pub overflow_add-sum : goal.overflow_add-sum
+overflow_add-sum c =
     let more = price_more c.args.lines.now c.args.arcs.now c.requires c.loop-i.i c.loop-i.sum _ c.loop-i-test.true c.from.result c.from-in-loop-i.result c.from.ensures c.from-in-loop-i.ensures c.loop-i.invariant in
     omega (arith, more.1, c.requires.few)
 

@@ -6,8 +6,8 @@ use Rattle.round.proofs.Sides.{weeks_more, weeks_same}
 use Rattle.round.proofs.closed_round.questions.total_weeks.Goals as goal
 use Rattle.round.proofs.closed_round.questions.total_weeks.Goals.{then-line-ne0, else-line-ne0}
 
-pub overflow-add-sum : goal.overflow-add-sum
-overflow-add-sum c = omega (arith, c.loop-i.invariant.1, c.requires.few, (c.requires.small c.loop-i.i (record { item = 0; limit = 0; price = 0 }) c.loop-i-test.true).1)
+pub overflow_add-sum : goal.overflow_add-sum
+overflow_add-sum c = omega (arith, c.loop-i.invariant.1, c.requires.few, (c.requires.small c.loop-i.i (record { item = 0; limit = 0; price = 0 }) c.loop-i-test.true).1)
 
 pub loop-i-preserved : goal.loop-i-preserved
 loop-i-preserved c =

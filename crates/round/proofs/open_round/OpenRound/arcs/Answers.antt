@@ -14,17 +14,17 @@ pub loop-k-init : goal.loop-k-init
 loop-k-init c =
     let b = book c.args.self.now in
     let held = holding_arcs (length b.items) b.holdings no_flows.held in
-    c.add-holdings.ensures ∙ ap (λ xs. xs ++ held) c.no-arcs-arcs.ensures ∙ sym (append-nil held)
+    c.add_holdings.ensures ∙ ap (λ xs. xs ++ held) c.no_arcs-arcs.ensures ∙ sym (append-nil held)
 
-pub add-offer-requires : goal.add-offer-requires
-add-offer-requires c =
+pub add_offer-requires : goal.add_offer-requires
+add_offer-requires c =
     let r = c.args.self.now in
-    let es = c.as-slice-offers.result.now in
+    let es = c.as_slice-offers.result.now in
     let ls = entries r.lines in
-    let rows : in_rows 0 es (length ls) ≡ true = subst (λ (xs : List Entry). in_rows 0 xs (length ls) ≡ true) (sym c.as-slice-offers.ensures) r.rows in
+    let rows : in_rows 0 es (length ls) ≡ true = subst (λ (xs : List Entry). in_rows 0 xs (length ls) ≡ true) (sym c.as_slice-offers.ensures) r.rows in
     let lt = c.loop-k-test.true in
     let few = length_entries r.offers in
-    let same = ap length c.as-slice-offers.ensures in
+    let same = ap length c.as_slice-offers.ensures in
     record {
       small = omega arith;
       within = (rows_at 0 es ls c.loop-k.k _ rows lt).1;
@@ -34,13 +34,13 @@ add-offer-requires c =
 pub loop-k-preserved : goal.loop-k-preserved
 loop-k-preserved c =
     let r = c.args.self.now in
-    let es = c.as-slice-offers.result.now in
+    let es = c.as_slice-offers.result.now in
     let items = length-map (entries r.items) letters in
-    front_more (length (book r).items) (book r).holdings (entries r.lines) es c.loop-k.k _ (entries c.loop-k.arcs) c.loop-k.invariant c.loop-k-test.true (entries c.add-offer.new.arcs) _ (omega arith) c.add-offer.ensures
+    front_more (length (book r).items) (book r).holdings (entries r.lines) es c.loop-k.k _ (entries c.loop-k.arcs) c.loop-k.invariant c.loop-k-test.true (entries c.add_offer.new.arcs) _ (omega arith) c.add_offer.ensures
 
 pub returns : goal.returns
 returns c =
     let r = c.args.self.now in
     let b = book r in
     let held = holding_arcs (length b.items) b.holdings no_flows.held in
-    c.loop-k.invariant ∙ ap (λ xs. held ++ offers_arcs (length b.items) b.holdings (length b.items + length b.holdings) (map (offer_of (entries r.lines)) xs) no_flows.offers) (take_all c.loop-k.k c.as-slice-offers.result.now (omega arith) ∙ c.as-slice-offers.ensures)
+    c.loop-k.invariant ∙ ap (λ xs. held ++ offers_arcs (length b.items) b.holdings (length b.items + length b.holdings) (map (offer_of (entries r.lines)) xs) no_flows.offers) (take_all c.loop-k.k c.as_slice-offers.result.now (omega arith) ∙ c.as_slice-offers.ensures)

@@ -7,10 +7,10 @@ use Rattle.round.specs.Carrying.{carries_none}
 use Rattle.round.proofs.Standing.{law_holds}
 use Rattle.round.proofs.open_round.OpenRound.close.Goals as goal
 
-pub invariant-of-result : goal.invariant-of-result
-invariant-of-result g c =
+pub invariant_of-result : goal.invariant_of-result
+invariant_of-result g c =
     let b = book c.args.self in
-    (∥∥₁_map c.args.self.sound (λ s. subst (Carries b) (sym c.arcs-arcs.ensures) (carries_none b s)), tt)
+    record { drawn = ∥∥₁_map c.args.self.sound (λ s. subst (Carries b) (sym c.arcs-arcs.ensures) (carries_none b s)) }
 
 pub returns : goal.returns
 returns g c = record { outcome = record { book = refl; net = ap (λ xs. record { nodes = nodes (book c.args.self); arcs = xs }) c.arcs-arcs.ensures }; law = law_holds g.met.W.Worth.lawful }

@@ -8,14 +8,14 @@ use Rattle.round.proofs.Sounds.{sound_hold}
 use Rattle.round.proofs.Standing.{round_law}
 use Rattle.round.proofs.open_round.OpenRound.hold.Goals as goal
 
-pub returns-then-is-strange : goal.returns-then-is-strange
-returns-then-is-strange c = record { outcome = record { refused = here (c.is-strange.ensures.0 c.if-is-strange.true); outcome = refl }; law = round_law }
+pub returns-then-is_strange : goal.returns-then-is_strange
+returns-then-is_strange c = record { outcome = record { refused = here (c.is_strange.ensures.0 c.if-is_strange.true); outcome = refl }; law = round_law }
 
-pub invariant-of-self : goal.invariant-of-self
-invariant-of-self c =
+pub invariant_of-self : goal.invariant_of-self
+invariant_of-self c =
     let r = c.args.self.now in
-    let known = not_from_Decides _ c.is-strange.ensures c.if-is-strange.false in
-    (∥∥₁_map r.sound (sound_hold (book r) _ _ c.put.result (holding_put (book r) _ _ c.put.result known c.put.ensures)), (r.rows, tt))
+    let known = not_from_Decides _ c.is_strange.ensures c.if-is_strange.false in
+    record { sound = ∥∥₁_map r.sound (sound_hold (book r) _ _ c.put.result (holding_put (book r) _ _ c.put.result known c.put.ensures)); rows = r.rows }
 
 pub returns : goal.returns
-returns c = record { outcome = holding_put (book c.args.self.now) _ _ c.put.result (not_from_Decides _ c.is-strange.ensures c.if-is-strange.false) c.put.ensures; law = round_law }
+returns c = record { outcome = holding_put (book c.args.self.now) _ _ c.put.result (not_from_Decides _ c.is_strange.ensures c.if-is_strange.false) c.put.ensures; law = round_law }

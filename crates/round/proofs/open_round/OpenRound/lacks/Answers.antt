@@ -16,4 +16,4 @@ returns-else-members-member c =
     let lm = length-map (entries c.args.self.now.members) letters in
     let e = c.len-items.ensures.count ∙ sym (length-map (entries c.args.self.now.items) letters) in
     let P : ℕ → Type 0 = λ n. EitherSide (λ l. n ≤ l.item) c.args.give.now c.args.get.now in
-    (λ t. inr (subst P e (c.either-side.ensures.0 t)), λ w. elim w [ inl p ↦ absurd (omega arith) | inr q ↦ c.either-side.ensures.1 (subst P (sym e) q) ])
+    (λ t. inr (subst P e (c.either_side.ensures.0 t)), λ w. elim w [ inl p ↦ absurd (omega arith) | inr q ↦ c.either_side.ensures.1 (subst P (sym e) q) ])

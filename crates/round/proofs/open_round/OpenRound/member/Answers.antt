@@ -5,10 +5,10 @@ use Rattle.round.proofs.Sounds.{sound_member}
 use Rattle.round.proofs.Standing.{round_law}
 use Rattle.round.proofs.open_round.OpenRound.member.Goals as goal
 
-pub invariant-of-self : goal.invariant-of-self
-invariant-of-self c =
+pub invariant_of-self : goal.invariant_of-self
+invariant_of-self c =
     let r = c.args.self.now in
-    (∥∥₁_map r.sound (sound_member (book r) _ c.args.name.now c.list.result (member_listed (book r) _ c.args.name.now c.list.result c.list.ensures)), (r.rows, tt))
+    record { sound = ∥∥₁_map r.sound (sound_member (book r) _ c.args.name.now c.list.result (member_listed (book r) _ c.args.name.now c.list.result c.list.ensures)); rows = r.rows }
 
 pub returns : goal.returns
 returns c = record { outcome = member_listed (book c.args.self.now) _ c.args.name.now c.list.result c.list.ensures; law = round_law }

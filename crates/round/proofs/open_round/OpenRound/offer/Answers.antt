@@ -11,18 +11,18 @@ use Rattle.round.proofs.open_round.OpenRound.offer.Goals as goal
 pub returns-in-Some : goal.returns-in-Some
 returns-in-Some c = record { outcome = record { refused = c.in-Some.ensures; outcome = refl }; law = round_law }
 
-pub overflow-cast-give : goal.overflow-cast-give
-overflow-cast-give c =
+pub overflow_cast-give : goal.overflow_cast-give
+overflow_cast-give c =
     let o = made c.args.member c.args.limit c.args.give.now c.args.get.now in
-    omega (arith, (room (book c.args.self.now) o c.in-default.ensures).1)
+    omega (arith, (room (book c.args.self.now) o c.in_default.ensures).1)
 
-pub overflow-cast-get : goal.overflow-cast-get
-overflow-cast-get c =
+pub overflow_cast-get : goal.overflow_cast-get
+overflow_cast-get c =
     let o = made c.args.member c.args.limit c.args.give.now c.args.get.now in
-    omega (arith, (room (book c.args.self.now) o c.in-default.ensures).1)
+    omega (arith, (room (book c.args.self.now) o c.in_default.ensures).1)
 
-pub invariant-of-self : goal.invariant-of-self
-invariant-of-self c =
+pub invariant_of-self : goal.invariant_of-self
+invariant_of-self c =
     let r = c.args.self.now in
     let give = c.args.give.now in
     let get = c.args.get.now in
@@ -34,10 +34,7 @@ invariant-of-self c =
     let ls1 = entries c.extend.new.self in
     let ls2 = entries c.extend-2.new.self in
     let k = c.len-first.result in
-    let taken = offer_taken (book r) es es' ls ls1 ls2 give get m l k c.extend.result c.extend-2.result c.push.result r.rows c.len-first.ensures.count c.in-default.ensures c.extend.ensures c.extend-2.ensures c.push.ensures c.len-n.result c.len-n.ensures.count in (
-      ∥∥₁_map r.sound (sound_offer (book r) _ (made m l give get) (Ok c.len-n.result) taken),
-      (offer_rows (book r) es es' ls ls1 ls2 give get m l k c.extend.result c.extend-2.result c.push.result r.rows c.len-first.ensures.count c.in-default.ensures c.extend.ensures c.extend-2.ensures c.push.ensures, tt),
-    )
+    let taken = offer_taken (book r) es es' ls ls1 ls2 give get m l k c.extend.result c.extend-2.result c.push.result r.rows c.len-first.ensures.count c.in_default.ensures c.extend.ensures c.extend-2.ensures c.push.ensures c.len-n.result c.len-n.ensures.count in record { sound = ∥∥₁_map r.sound (sound_offer (book r) _ (made m l give get) (Ok c.len-n.result) taken); rows = offer_rows (book r) es es' ls ls1 ls2 give get m l k c.extend.result c.extend-2.result c.push.result r.rows c.len-first.ensures.count c.in_default.ensures c.extend.ensures c.extend-2.ensures c.push.ensures }
 
 pub returns : goal.returns
 returns c =
@@ -45,6 +42,6 @@ returns c =
     record {
       outcome =
           offer_taken (book r) (entries r.offers) (entries c.push.new.self) (entries r.lines) (entries c.extend.new.self) (entries c.extend-2.new.self) c.args.give.now c.args.get.now c.args.member c.args.limit c.len-first.result
-          c.extend.result c.extend-2.result c.push.result r.rows c.len-first.ensures.count c.in-default.ensures c.extend.ensures c.extend-2.ensures c.push.ensures c.len-n.result c.len-n.ensures.count;
+          c.extend.result c.extend-2.result c.push.result r.rows c.len-first.ensures.count c.in_default.ensures c.extend.ensures c.extend-2.ensures c.push.ensures c.len-n.result c.len-n.ensures.count;
       law = round_law;
     }

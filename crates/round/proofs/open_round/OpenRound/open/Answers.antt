@@ -23,13 +23,10 @@ just_cash is ms hs es ls n ei en em eh ee = λ i. record { items = (ap (map lett
 alone : (t u : Table Name 16) (n : Name) (r : Result (Unit {0}) Refusal) → entries t ≡ [] → Added 16 (entries t) (entries u) (n ∷ []) r → entries u ≡ n ∷ []
 alone t u n r none added = grew 16 (entries t) (entries u) (n ∷ []) r added (omega (arith, ap length none)) ∙ ap (λ xs. xs ++ n ∷ []) none
 
-pub invariant-of-result : goal.invariant-of-result
-invariant-of-result c =
+pub invariant_of-result : goal.invariant_of-result
+invariant_of-result c =
     let one = alone c.new-items.result c.push.new.self c.cash-cash.result c.push.result c.new-items.ensures c.push.ensures in
-    let e = just_cash c.push.new.self c.new.result c.new-2.result c.new-3.result c.new-4.result c.cash-cash.result one c.cash-cash.ensures c.new.ensures c.new-2.ensures c.new-3.ensures in (
-      ∣ subst Sound (sym e) sound_fresh ∣₁,
-      (ap (λ xs. in_rows 0 xs (length (entries c.new-4.result))) c.new-3.ensures ∙ ap (λ xs. in_rows 0 [] (length xs)) c.new-4.ensures, tt),
-    )
+    let e = just_cash c.push.new.self c.new.result c.new-2.result c.new-3.result c.new-4.result c.cash-cash.result one c.cash-cash.ensures c.new.ensures c.new-2.ensures c.new-3.ensures in record { sound = ∣ subst Sound (sym e) sound_fresh ∣₁; rows = ap (λ xs. in_rows 0 xs (length (entries c.new-4.result))) c.new-3.ensures ∙ ap (λ xs. in_rows 0 [] (length xs)) c.new-4.ensures }
 
 pub returns : goal.returns
 returns c =

@@ -11,4 +11,4 @@ returns c =
     let ls = entries c.args.self.now.lines in
     let lo = length-map es (offer_of ls) in
     let lc = count_rows 0 es ls c.args.self.now.rows in
-    (λ t. elim (c.is-overfull.ensures.0 t) [ inl p ↦ inl (omega arith) | inr p ↦ inr (omega arith) ], λ w. c.is-overfull.ensures.1 (elim w [ inl p ↦ inl (omega arith) | inr p ↦ inr (omega arith) ]))
+    (λ t. elim (c.is_overfull.ensures.0 t) [ inl p ↦ inl (omega arith) | inr p ↦ inr (omega arith) ], λ w. c.is_overfull.ensures.1 (elim w [ inl p ↦ inl (omega arith) | inr p ↦ inr (omega arith) ]))

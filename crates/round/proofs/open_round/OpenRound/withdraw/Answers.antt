@@ -12,10 +12,10 @@ use Rattle.round.proofs.Calls.{withdrawn_already, entry_stopped}
 use Rattle.round.proofs.Standing.{round_law}
 use Rattle.round.proofs.open_round.OpenRound.withdraw.Goals as goal
 
-pub returns-in-default : goal.returns-in-default
-returns-in-default c =
+pub returns-in_default : goal.returns-in_default
+returns-in_default c =
     let es = entries c.args.self.now.offers in
-    let past = c.in-default.ensures in
+    let past = c.in_default.ensures in
     record { outcome = record { refused = here (omega (arith, length-map es (offer_of (entries c.args.self.now.lines)))); outcome = refl }; law = round_law }
 
 pub returns-then-entry-eq0 : goal.returns-then-entry-eq0
@@ -24,22 +24,19 @@ returns-then-entry-eq0 c =
     let found = c.in-Some.ensures in
     record { outcome = withdrawn_already (book r) (entries r.lines) (entries r.offers) c.args.offer c.in-Some.entry found.0 found.1 c.if-entry-eq0.true; law = round_law }
 
-pub invariant-of-self : goal.invariant-of-self
-invariant-of-self c =
+pub invariant_of-self : goal.invariant_of-self
+invariant_of-self c =
     let r = c.args.self.now in
     let es = entries r.offers in
     let ls = entries r.lines in
     let k = c.args.offer in
     let e = c.in-Some.entry in
     let found = c.in-Some.ensures in
-    let done = entry_stopped (book r) ls es k e found.0 found.1 (entries c.set.new.self) c.set.result c.if-entry-eq0.false c.set.ensures.outcome in (
-      ∥∥₁_map r.sound (sound_withdraw (book r) _ k c.set.result done),
-      (
-        ap (λ xs. in_rows 0 xs (length ls)) (replaced es (entries c.set.new.self) k (stopped e) c.set.result c.set.ensures.outcome found.0)
-            ∙ rows_stopped 0 es (length ls) k e found.1 ∙ r.rows,
-        tt,
-      ),
-    )
+    let done = entry_stopped (book r) ls es k e found.0 found.1 (entries c.set.new.self) c.set.result c.if-entry-eq0.false c.set.ensures.outcome in record {
+      sound = ∥∥₁_map r.sound (sound_withdraw (book r) _ k c.set.result done);
+      rows = ap (λ xs. in_rows 0 xs (length ls)) (replaced es (entries c.set.new.self) k (stopped e) c.set.result c.set.ensures.outcome found.0)
+          ∙ rows_stopped 0 es (length ls) k e found.1 ∙ r.rows;
+    }
 
 pub returns : goal.returns
 returns c =

@@ -8,10 +8,10 @@ use Rattle.round.specs.Rounds.{book}
 use Rattle.round.specs.Carrying.{carries_pushed}
 use Rattle.round.proofs.closed_round.as_network.ClosedRoundImprovable.push.Goals as goal
 
-pub invariant-of-self : goal.invariant-of-self
-invariant-of-self g c =
+pub invariant_of-self : goal.invariant_of-self
+invariant_of-self g c =
     let r = c.args.self.now in
-    (∥∥₁_map r.drawn (carries_pushed (book r.round) (entries r.arcs) (entries c.push.new.arcs) c.args.arc _ c.push.result c.push.ensures.outcome), tt)
+    record { drawn = ∥∥₁_map r.drawn (carries_pushed (book r.round) (entries r.arcs) (entries c.push.new.arcs) c.args.arc _ c.push.result c.push.ensures.outcome) }
 
 pub returns : goal.returns
 returns g c =

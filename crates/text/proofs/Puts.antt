@@ -1,9 +1,9 @@
 -- Putting bytes into a buffer piece by piece.
-use Rattle.std.proofs.Common.{◌≡◌, ℕ, suc, ◌+◌, ◌-◌, ◌<◌, ◌≤◌, List, [], ◌∷◌, ◌++◌, length, get_or, take, drop, set, Some, None, Ok, Err, Option, Result, sym, refl, ap, ◌∙◌, subst, ⊎_elim, append_assoc, append-nil, arith, take-append-drop}
+use Rattle.std.proofs.Common.{◌≡◌, ℕ, ◌+◌, ◌<◌, ◌≤◌, List, [], ◌∷◌, ◌++◌, length, get_or, take, drop, set, Some, None, Ok, Err, Option, Result, sym, refl, ap, ◌∙◌, subst, ⊎_elim, append_assoc, append-nil, arith, take-append-drop}
 use Rattle.std.proofs.lemmas.List.{drop_more, length-append, length_push, length-take-le, set_at, take_all, take-append-le, take_at, take_more}
 use Rattle.std.proofs.lemmas.Bool.{cases_lt}
-use Rattle.tables.specs.Refusals.{Row, when, First, number, refusal}
-use Rattle.tables.specs.Tables.{Added, entries}
+use Rattle.tables.specs.Refusals.{when, First, number, refusal}
+use Rattle.tables.specs.Tables.{Added}
 use Rattle.tables.specs.declared.refusal.Refusal.{Refusal}
 use Rattle.tables.proofs.Entries.{length_entries}
 use Rattle.tables.proofs.Firsts.{next, not_first}

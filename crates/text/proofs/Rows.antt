@@ -1,10 +1,10 @@
 -- Reading a row number by number.
-use Rattle.std.proofs.Common.{◌≡◌, ℕ, zero, suc, ◌+◌, ◌<◌, ◌≤◌, Bool, true, false, List, [], ◌∷◌, ◌++◌, length, get_or, take, drop, set, sym, refl, ap, ◌∙◌, subst, append_assoc, append-nil, add-zero, arith, length-set}
+use Rattle.std.proofs.Common.{◌≡◌, ℕ, ◌+◌, ◌<◌, ◌≤◌, Bool, true, false, List, [], ◌∷◌, ◌++◌, length, get_or, take, drop, set, sym, refl, ap, ◌∙◌, subst, append_assoc, append-nil, add-zero, arith, length-set}
 use Rattle.std.specs.List.{AllByRecursion as All}
-use Rattle.std.proofs.lemmas.List.{drop_all, drop-drop, get_or-drop, length-append, length-drop, take_all, take_more, take_more_set}
+use Rattle.std.proofs.lemmas.List.{drop-drop, get_or-drop, length-drop, take_all, take_more, take_more_set}
 use Rattle.text.specs.Numbers.{Notation, Legible, Spells}
 use Rattle.text.specs.Parts.{Free, FirstAt}
-use Rattle.text.specs.Rows.{spaced, row_spelt, SpellsRow}
+use Rattle.text.specs.Rows.{row_spelt, SpellsRow}
 use Rattle.text.proofs.Cuts.{cut_once, no_first}
 
 -- the bytes are the row of these numbers

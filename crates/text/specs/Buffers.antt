@@ -1,6 +1,6 @@
 -- Texts in the making, and their copies on a page.
 use Rattle.std.specs.Prelude.{◌≡◌, ℕ, ◌+◌, ◌<◌, List, [], ◌∷◌, ◌++◌, length, take, drop, Result, MatchResult}
-use Rattle.tables.specs.Refusals.{Row, when, First, refusal}
+use Rattle.tables.specs.Refusals.{when, First, refusal}
 use Rattle.tables.specs.Tables.{entries}
 use Rattle.tables.specs.declared.refusal.Refusal.{Refusal}
 use Rattle.text.specs.declared.buffer.Buffer.{Buffer}

@@ -1,6 +1,6 @@
 -- Reading a text line by line.
 use Rattle.std.specs.Prelude.{◌≡◌, ℕ, ◌+◌, ◌<◌, List, [], ◌∷◌, length, Result, MatchResult}
-use Rattle.tables.specs.Refusals.{Row, when, First, refusal}
+use Rattle.tables.specs.Refusals.{when, First, refusal}
 use Rattle.tables.specs.declared.refusal.Refusal.{Refusal}
 use Rattle.tables.specs.declared.refusal.Refusal.TheVariants.{Layout}
 use Rattle.text.specs.Faults.{fault_at}

@@ -1,9 +1,9 @@
-use Rattle.std.proofs.Common.{◌≡◌, ℕ, ◌-◌, ◌^◌, ◌<◌, ◌≤◌, List, [], ◌∷◌, length, get_or, take, drop, ℤ, pos, ◌-ℤ◌, neg_ℤ, sym, refl, ap, ◌∙◌, subst, arith, w64, to_z, of_z, rules}
+use Rattle.std.proofs.Common.{◌≡◌, ℕ, ◌-◌, ◌^◌, ◌<◌, ◌≤◌, List, [], ◌∷◌, length, get_or, take, drop, pos, ◌-ℤ◌, neg_ℤ, sym, refl, ap, ◌∙◌, subst, arith, w64, to_z, of_z, rules}
 use Rattle.std.proofs.lemmas.List.{take_all}
 use Rattle.std.proofs.lemmas.Result.{err_from_is_err_and}
 use Rattle.std.proofs.lemmas.Int.{ints, to_z_pos}
-use Rattle.text.specs.Numbers.{Spells, signed, spelt}
-use Rattle.text.specs.NumbersLemmas.{below_digits, level_from_minus, no_level, no_level_plain, one_number}
+use Rattle.text.specs.Numbers.{Spells, signed}
+use Rattle.text.specs.NumbersLemmas.{below_digits, level_from_minus, no_level, one_number}
 use Rattle.text.proofs.number.level.Goals as goal
 
 -- the bytes after the first
@@ -11,11 +11,11 @@ split : (b : ℕ) (xs : List ℕ) → 1 ≤ length xs → get_or xs 0 0 ≡ b �
 split b [] h e = absurd (omega arith)
 split b (x ∷ xs) h e = ap (λ w. w ∷ xs) e ∙ ap (λ w. b ∷ w) (sym (take_all _ xs (omega arith)))
 
-pub returns-in_err-n : goal.returns-in_err-n
-returns-in_err-n c =
+pub returns-in_err-n-in-45 : goal.returns-in_err-n-in-45
+returns-in_err-n-in-45 c =
     let p = err_from_is_err_and c.from_residual.result c.from_residual.ensures.1 in
     let e = split 45 c.args.bytes.now (search rules) (search rules) in
-    rw (p.1, p.2) (c.in_err-n.ensures.0, no_level _ _ e (λ n s. absurd (c.in_err-n.ensures.1 n s)))
+    rw (p.1, p.2) (c.in_err-n-in-45.ensures.0, no_level _ _ e (λ n s. absurd (c.in_err-n-in-45.ensures.1 n s)))
 
 pub returns-then-n-eq0 : goal.returns-then-n-eq0
 returns-then-n-eq0 c =
@@ -41,8 +41,8 @@ overflow_sub-result c = omega (arith, ints, below_digits 13 c.in_ok-n-in-45.n c.
 pub overflow_cast-result-in_default : goal.overflow_cast-result-in_default
 overflow_cast-result-in_default c = omega (arith, below_digits 13 c.in_ok-number-in_default.field-0 c.in_ok-number-in_default.ensures.1)
 
-pub returns-in_ok-number : goal.returns-in_ok-number
-returns-in_ok-number c =
-    let n = c.in_ok-number.field-0 in
-    let s = c.in_ok-number.ensures in
+pub returns-in_ok-number-in_default : goal.returns-in_ok-number-in_default
+returns-in_ok-number-in_default c =
+    let n = c.in_ok-number-in_default.field-0 in
+    let s = c.in_ok-number-in_default.ensures in
     subst (Spells signed _) (sym (to_z_pos w64 n (omega (arith, below_digits 13 n s.1)))) s

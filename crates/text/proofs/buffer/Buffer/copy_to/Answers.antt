@@ -1,6 +1,4 @@
-use Rattle.std.proofs.Common.{◌≡◌, ◌++◌, length, get_or, take, drop, set, Ok, sym, refl, ap, ◌∙◌, subst, arith}
-use Rattle.tables.proofs.Firsts.{next}
-use Rattle.text.specs.Buffers.{Copied}
+use Rattle.std.proofs.Common.{get_or, set, ap, ◌∙◌, arith}
 use Rattle.text.proofs.Puts.{copy_more, copied}
 use Rattle.text.proofs.buffer.Buffer.copy_to.Goals as goal
 

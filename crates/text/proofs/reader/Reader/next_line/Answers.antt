@@ -1,8 +1,8 @@
-use Rattle.std.proofs.Common.{◌≡◌, sym, refl, ap, ◌∙◌, subst, arith, rules}
-use Rattle.std.proofs.lemmas.Result.{err_from_is_err_and, MatchResult-at_ok}
+use Rattle.std.proofs.Common.{refl, subst, arith}
+use Rattle.std.proofs.lemmas.Result.{err_from_is_err_and}
 use Rattle.text.specs.Lines.{Says}
 use Rattle.text.proofs.Cuts.{no_first, first_once, rest_shorter}
-use Rattle.text.proofs.Faults.{ok_from_at, layout_fault}
+use Rattle.text.proofs.Faults.{layout_fault}
 use Rattle.text.proofs.reader.Reader.next_line.Goals as goal
 
 pub returns-in_default : goal.returns-in_default

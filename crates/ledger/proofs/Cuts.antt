@@ -1,13 +1,13 @@
 -- Cutting a row at a byte, and the words of a line.
-use Rattle.std.proofs.Common.{◌≡◌, ℕ, zero, suc, ◌+◌, ◌-◌, ◌^◌, ◌<◌, ◌≤◌, Bool, true, false, ◌||◌, eqb, List, [], ◌∷◌, ◌++◌, length, get_or, take, drop, decimal, Decides, sym, refl, ap, ◌∙◌, subst, ⊎_elim, arith, take-append-drop}
+use Rattle.std.proofs.Common.{◌≡◌, ℕ, zero, suc, ◌+◌, ◌-◌, ◌^◌, ◌<◌, ◌≤◌, Bool, true, false, ◌||◌, eqb, List, [], ◌∷◌, ◌++◌, length, get_or, take, drop, decimal, sym, refl, ap, ◌∙◌, subst, ⊎_elim, arith, take-append-drop}
 use Rattle.std.specs.Str.Parse.{digits_value, AllDigits}
 use Rattle.std.specs.Int.{IsInRange}
-use Rattle.std.proofs.lemmas.Fmt.{digits_decimal, decimal_nonempty, length-decimal-le, first_decimal, decimal_digit, decimal-digits_value, decimal_injective}
+use Rattle.std.proofs.lemmas.Fmt.{digits_decimal, decimal_nonempty, length-decimal-le, first_decimal, decimal_digit, decimal-digits_value}
 use Rattle.std.proofs.lemmas.List.{drop_more, take_rest, length-take-le, get_or-take}
 use Rattle.std.proofs.lemmas.Str.Parse.{IsNumeralModel, numerals_by_value, tells_digits, digits_value_short, not_in_digits}
 use Rattle.std.proofs.lemmas.Bool.{cases_lt}
-use Rattle.std.proofs.lemmas.Bool.Decides.{nat_tests, not_from_Decides}
-use Rattle.ledger.specs.Spellings.{side_word, sort_word, Number, NumberFirst, Without, Spells, spelling}
+use Rattle.std.proofs.lemmas.Bool.Decides.{nat_tests}
+use Rattle.ledger.specs.Spellings.{side_word, sort_word, Number, NumberFirst, Without, Spells}
 use Rattle.ledger.specs.declared.trade.Side.{Side}
 use Rattle.ledger.specs.declared.trade.Side.TheVariants.{Give, Get}
 use Rattle.ledger.specs.declared.trade.Trade.{Trade}
@@ -116,9 +116,9 @@ pub side_first : (row word rest : List ℕ) → row ≡ word ++ 32 ∷ rest → 
 side_first row word rest e f s q g = (cut_once 32 word (side_word s) rest q f (without_side s) (sym e ∙ g)).0
 
 -- a word that is neither side's is no side
-pub no_side : (word : List ℕ) (give get : Bool) → Decides give (word ≡ side_word Give) → Decides get (word ≡ side_word Get) → give ≡ false → get ≡ false → (s : Side) → word ≡ side_word s → ⊥
-no_side word give get p q a b Give e = not_from_Decides give p a e
-no_side word give get p q a b Get e = not_from_Decides get q b e
+pub no_side : (word : List ℕ) → (word ≡ side_word Give → ⊥) → (word ≡ side_word Get → ⊥) → (s : Side) → word ≡ side_word s → ⊥
+no_side word give get Give e = give e
+no_side word give get Get e = get e
 
 -- a side and the space after it are found in one way
 pub one_side : (row : List ℕ) (s u : Side) (p q : List ℕ) → row ≡ side_word s ++ 32 ∷ p → row ≡ side_word u ++ 32 ∷ q → p ≡ q

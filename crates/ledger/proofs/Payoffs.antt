@@ -1,5 +1,5 @@
 -- Worth by money and by weeks, in integers, and the payoffs of the offers.
-use Rattle.std.proofs.Common.{◌≡◌, ℕ, zero, suc, ◌+◌, ◌*◌, ◌<◌, ◌≤◌, Bool, true, false, cond, ◌&&◌, T, eqb, List, [], ◌∷◌, map, length, ℤ, pos, negsuc, ◌+ℤ◌, ◌-ℤ◌, ◌*ℤ◌, neg_ℤ, nat_abs, sym, refl, ap, ◌∙◌, subst, ap₂, ⊎_elim, one-mul, zero-mul, arith, w32, w64, Fits, SFits, to_z, of_z}
+use Rattle.std.proofs.Common.{◌≡◌, ℕ, zero, suc, ◌*◌, ◌<◌, ◌≤◌, Bool, true, false, cond, ◌&&◌, T, eqb, List, [], ◌∷◌, length, ℤ, pos, ◌+ℤ◌, ◌-ℤ◌, ◌*ℤ◌, nat_abs, sym, refl, ap, ◌∙◌, subst, ap₂, ⊎_elim, one-mul, zero-mul, arith, w32, w64, Fits, SFits, to_z, of_z}
 use lib.Signed.{non_neg}
 use Rattle.std.proofs.lemmas.Int.{ints, to_z-of_z}
 use Rattle.std.proofs.lemmas.Bool.{cases_lt}
@@ -9,11 +9,11 @@ use Rattle.worth.specs.Kinds.{Ops}
 use Rattle.worth.specs.Lexicographic.{pile, pair}
 use Rattle.worth.specs.Money.{money}
 use Rattle.worth.specs.Weeks.{weeks}
-use Rattle.ledger.specs.Trades.{sound, all_sound, unit_price, unit_weeks, line_worth, worth_of, on, amount, weeks_got, balance, lines_of, payoff_of, payoffs_below}
+use Rattle.ledger.specs.Trades.{sound, all_sound, unit_price, unit_weeks, line_worth, worth_of, on, weeks_got, balance, lines_of, payoff_of, payoffs_below}
 use Rattle.ledger.specs.declared.trade.Side.{Side}
 use Rattle.ledger.specs.declared.trade.Side.TheVariants.{Give, Get}
 use Rattle.ledger.specs.declared.trade.Trade.{Trade}
-use Rattle.ledger.proofs.Sums.{Bounded, bounded, each_sound}
+use Rattle.ledger.proofs.Sums.{bounded, each_sound}
 
 -- the worth by two kinds piled up has the worth by each
 pub pile_worth : {A B : Type 0} (a : Ops A) (b : Ops B) (ts : List Trade) → worth_of (pile a b) ts ≡ pair (worth_of a ts) (worth_of b ts)

@@ -1,4 +1,7 @@
 // Reads the traded lines of an allotment, and prints each offer's payoff and what all are worth.
+#![tactic(auto)]
+
+use anyhow::anyhow;
 use ledger::ledger::Ledger;
 use ledger::reading::{Damage, read_ledger};
 use std::alloc::{AllocError, Global};
@@ -19,7 +22,7 @@ fn run(rt: &HostRuntime) -> anyhow::Result<()> {
     rt.stdin().read_to_end(&mut text)?;
     match read_ledger(&text) {
         Ok(ledger) => print_payoffs(rt, &ledger),
-        Err(damage) => Err(message(rt.alloc(), damage)?.into()),
+        Err(damage) => Err(anyhow!(message(rt.alloc(), damage)?)),
     }
 }
 

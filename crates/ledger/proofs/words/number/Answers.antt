@@ -23,11 +23,11 @@ returns-then-d-lt48 c = (refl, λ n s. let p = plain_from_number _ n s in let d 
 small : (bs : List ℕ) (i v : ℕ) → i < length bs → length bs ≤ 9 → v ≡ digits_value 10 (take i bs) → AllDigits 10 (take i bs) → v < 10 ^ 8
 small bs i v lt le e ds = omega (arith, digits_value_short own (take i bs) 8 ds (simp length-take (omega arith)))
 
-pub overflow-mul-value : goal.overflow-mul-value
-overflow-mul-value c = let v = small _ _ _ c.loop-b-test.true (omega arith) c.loop-b.invariant.0 c.loop-b.invariant.1 in omega arith
+pub overflow_mul-value : goal.overflow_mul-value
+overflow_mul-value c = let v = small _ _ _ c.loop-b-test.true (omega arith) c.loop-b.invariant.0 c.loop-b.invariant.1 in omega arith
 
-pub overflow-add-value : goal.overflow-add-value
-overflow-add-value c = let v = small _ _ _ c.loop-b-test.true (omega arith) c.loop-b.invariant.0 c.loop-b.invariant.1 in omega arith
+pub overflow_add-value : goal.overflow_add-value
+overflow_add-value c = let v = small _ _ _ c.loop-b-test.true (omega arith) c.loop-b.invariant.0 c.loop-b.invariant.1 in omega arith
 
 digit : (b : ℕ) → 48 ≤ b → b ≤ 57 → digit_value b ≡ b - 48
 digit b lo hi = omega (arith, digit_value_digit b (lo, hi))

@@ -3,8 +3,8 @@ use Rattle.tables.proofs.Firsts.{next}
 use Rattle.ledger.proofs.Sums.{sound_if, still_sound}
 use Rattle.ledger.proofs.ledger.Ledger.add.Goals as goal
 
-pub invariant-of-self : goal.invariant-of-self
-invariant-of-self c = (still_sound _ _ _ _ c.push.ensures (search rules) (sound_if c.args.trade (search rules) (search rules) (search rules)), tt)
+pub invariant_of-self : goal.invariant_of-self
+invariant_of-self c = record { sound = still_sound _ _ _ _ c.push.ensures (search rules) (sound_if c.args.trade (search rules) (search rules) (search rules)) }
 
 pub returns : goal.returns
 returns c = record {

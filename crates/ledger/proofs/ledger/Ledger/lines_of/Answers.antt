@@ -28,11 +28,11 @@ loop-trade-preserved c =
           ap entries w.lines-is ∙ c.loop-trade.invariant ∙ sym (skipped_next k ts i within (λ p. w.if-trade-offer.false (ap (λ t. t.offer) same ∙ p)))
     ]
 
-pub invariant-of-result : goal.invariant-of-result
-invariant-of-result c =
+pub invariant_of-result : goal.invariant_of-result
+invariant_of-result c =
     let ts = listed c.args.self.now in
-    let all = c.loop-trade.invariant ∙ ap (lines_of c.args.offer) (take_all c.loop-trade.trade-index ts (omega (arith, ap length c.as-slice-trade-items.ensures, c.loop-trade-test.false))) in
-    (subst (λ xs. all_sound xs ≡ true) (sym all) (kept_sound c.args.offer ts c.args.self.now.sound), tt)
+    let all = c.loop-trade.invariant ∙ ap (lines_of c.args.offer) (take_all c.loop-trade.trade-index ts (omega (arith, ap length c.as_slice-trade-items.ensures, c.loop-trade-test.false))) in
+    record { sound = subst (λ xs. all_sound xs ≡ true) (sym all) (kept_sound c.args.offer ts c.args.self.now.sound) }
 
 pub returns : goal.returns
 returns c =

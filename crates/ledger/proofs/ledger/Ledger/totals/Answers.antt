@@ -8,8 +8,8 @@ use Rattle.ledger.proofs.Payoffs.{pile_worth, money_is, weeks_is, weeks_few, cou
 use Rattle.ledger.proofs.Sums.{few}
 use Rattle.ledger.proofs.ledger.Ledger.totals.Goals as goal
 
-pub overflow-cast-result : goal.overflow-cast-result
-overflow-cast-result c =
+pub overflow_cast-result : goal.overflow_cast-result
+overflow_cast-result c =
     let l = c.args.self.now in
     let e = ap (λ w. w.second.count) (c.worth-worth.ensures ∙ pile_worth money weeks (listed l)) ∙ weeks_is (listed l) in
     count_fits _ (weeks_got (listed l)) e (omega (arith, weeks_few (listed l) l.sound, few l))

@@ -1,4 +1,6 @@
 // The book of a round: what is held and offered, which allotments are allowed, and the network that stands for it.
+#![tactic(auto)]
+
 pub mod agreement;
 pub mod holding;
 pub mod line;

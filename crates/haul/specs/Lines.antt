@@ -1,5 +1,5 @@
 -- The lines that are read and the lines that are written.
-use Rattle.std.specs.Prelude.{◌≡◌, ℕ, min, List, [], ◌∷◌, ◌++◌, ℤ, pos, negsuc, Some, codes, decimal, Result, FitsSigned}
+use Rattle.std.specs.Prelude.{◌≡◌, ℕ, min, List, ◌∷◌, ◌++◌, ℤ, pos, negsuc, Some, codes, decimal, Result, FitsSigned}
 use Rattle.std.specs.Int.{w64}
 use Rattle.std.specs.Str.Parse.{IsNumeral, without_leading_sign, signed_digits_value}
 use Rattle.std.specs.Fmt.{signed_decimal}

@@ -1,4 +1,6 @@
 // Reads roads from standard input, clears the haul table by money then weeks, and prints the flows, the worth and the levels.
+#![tactic(auto)]
+
 mod reading;
 mod writing;
 

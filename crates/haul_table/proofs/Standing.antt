@@ -1,17 +1,17 @@
 -- The law over uses of a haul table, from the outcomes of its calls.
-use Rattle.std.proofs.Common.{◌≡◌, ℕ, zero, suc, ◌+◌, ◌<◌, ◌≤◌, Bool, true, false, eqb, List, [], ◌∷◌, ◌++◌, length, Ok, Err, Result, sym, refl, ap, ◌∙◌, subst, ap₂, ⊎_elim, arith}
+use Rattle.std.proofs.Common.{◌≡◌, ℕ, suc, ◌+◌, ◌<◌, ◌≤◌, Bool, true, false, eqb, [], ◌∷◌, length, Ok, Err, Result, sym, refl, ap, ◌∙◌, subst, ap₂, ⊎_elim, arith}
 use Rattle.std.proofs.lemmas.List.{length_push, get_or_push, get_or_append_left}
 use Rattle.std.proofs.lemmas.Bool.{cases_lt}
 use Rattle.tables.specs.declared.refusal.Refusal.{Refusal}
 use Rattle.worth.specs.Kinds.{Ops, Laws}
 use Rattle.flow.specs.declared.arc.Arc.{Arc}
 use Rattle.flow.specs.Arcs.{arc_at, blank}
-use Rattle.flow.specs.Graphs.{Circulation, Within, sum_n, when, coming, going}
+use Rattle.flow.specs.Graphs.{Circulation, sum_n, when, coming, going}
 use Rattle.flow.specs.Groups.{kind, total, times}
 use Rattle.flow.proofs.Group.{unit_right}
 use Rattle.flow.proofs.Sums.{sum_n_same, total_same}
-use Rattle.network.specs.Networks.{Net, Sound, SoundArc, flow_in, graph, value}
-use Rattle.search.proofs.Standing.{Stands, So, idle_so, improved_so, cleared_so, so_standing}
+use Rattle.network.specs.Networks.{Net, SoundArc, flow_in, graph, value}
+use Rattle.search.proofs.Standing.{So, idle_so, improved_so, cleared_so, so_standing}
 use Rattle.haul_table.proofs.Admitting.{admitted}
 use Rattle.haul_table.specs.Roads.{empty, fresh, with_arc, Roaded}
 use Rattle.haul_table.specs.Uses.{Use, made, roaded, improved, cleared, Law}

@@ -1,12 +1,12 @@
 -- Tables that are the same but for flows, and what a push leaves.
-use Rattle.std.specs.Prelude.{◌≡◌, ℕ, ◌<◌, ◌≤◌, Bool, true, ◌⊎◌, List, [], ◌∷◌, length, ℤ, pos, ◌+ℤ◌, ◌<ℤ◌, None, Ok, Err, Result, MatchResult, ◌≢◌, slice_set, unsigned_abs, refl}
-use Rattle.std.proofs.Common.{sym, ap, ap₂, ◌∙◌, subst, ⊎_elim, arith}
+use Rattle.std.specs.Prelude.{◌≡◌, ℕ, ◌<◌, ◌≤◌, true, ◌⊎◌, List, length, ℤ, pos, ◌+ℤ◌, ◌<ℤ◌, None, Ok, Err, Result, MatchResult, ◌≢◌, slice_set, unsigned_abs, refl}
+use Rattle.std.proofs.Common.{sym, ap, ◌∙◌, subst, ⊎_elim, arith}
 use Rattle.std.proofs.Math.Bool.{Bool-set}
 use mathlib.Core.HLevel.{is_prop→PathP}
 use Rattle.std.proofs.lemmas.Int.{ints}
 use Rattle.tables.specs.declared.refusal.Refusal.{Refusal}
 use Rattle.tables.specs.Refusals.{refusal}
-use Rattle.tables.specs.Tables.{entries, unused, Replaced}
+use Rattle.tables.specs.Tables.{entries, Replaced}
 use Rattle.tables.proofs.Entries.{same_table, replaced}
 use Rattle.tables.proofs.Firsts.{next}
 use Rattle.flow.specs.declared.arc.Arc.{Arc}

@@ -1,4 +1,6 @@
 // Builds the example market by the calls of a round, clears it by money, and prints what each offer pays and gets.
+#![tactic(auto)]
+
 use anyhow::anyhow;
 use book::line::Line;
 use round::closed_round::ClosedRound;

@@ -1,5 +1,5 @@
 -- A push on a list of arcs.
-use Rattle.std.proofs.Common.{◌≡◌, ℕ, ◌<◌, ◌≤◌, ◌⊎◌, List, length, set, ℤ, pos, ◌+ℤ◌, nat_abs, ◌<ℤ◌, None, Ok, Err, Result, sym, refl, ap, ◌∙◌, subst, ⊎_elim, arith, MatchResult}
+use Rattle.std.proofs.Common.{◌≡◌, ℕ, ◌<◌, ◌≤◌, ◌⊎◌, List, length, set, ℤ, pos, ◌+ℤ◌, nat_abs, ◌<ℤ◌, None, Ok, Err, Result, sym, ap, ◌∙◌, subst, ⊎_elim, arith, MatchResult}
 use Rattle.std.proofs.lemmas.Int.{ints}
 use Rattle.tables.specs.declared.refusal.Refusal.{Refusal}
 use Rattle.tables.specs.Refusals.{refusal}

@@ -1,5 +1,5 @@
 -- The worth of the first arcs of a network, and how large it can be.
-use Rattle.std.proofs.Common.{◌≡◌, ℕ, zero, suc, ◌+◌, ◌*◌, ◌<◌, ◌≤◌, length, sym, ap, ◌∙◌, ap₂, subst₂, mul-le-mul, add-one, arith}
+use Rattle.std.proofs.Common.{◌≡◌, ℕ, zero, suc, ◌+◌, ◌*◌, ◌≤◌, length, sym, ap, ◌∙◌, ap₂, subst₂, mul-le-mul, add-one, arith}
 use Rattle.worth.specs.Kinds.{Ops, Laws}
 use Rattle.flow.specs.Groups.{times, total}
 use Rattle.flow.specs.declared.arc.Arc.{Arc}

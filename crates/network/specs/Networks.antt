@@ -1,5 +1,5 @@
 -- What a network is.
-use Rattle.std.specs.Prelude.{ℕ, ◌<◌, ◌≤◌, List, length, ℤ, pos, negsuc, ◌≤ℤ◌, slice_set}
+use Rattle.std.specs.Prelude.{ℕ, ◌<◌, ◌≤◌, List, length, pos, negsuc, ◌≤ℤ◌, slice_set}
 use Rattle.worth.specs.Kinds.{Ops}
 use Rattle.flow.specs.declared.arc.Arc.{Arc}
 use Rattle.flow.specs.Graphs.{Graph, worth}

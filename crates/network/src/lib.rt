@@ -1,4 +1,6 @@
 // Networks that can be read and networks that can be improved; their worth, and tests of their flows and of potentials.
+#![tactic(auto)]
+
 pub mod arcs;
 pub mod circulation;
 pub mod improvable;

@@ -1,8 +1,8 @@
 -- The lines of the entries, one behind the other.
-use Rattle.std.proofs.Common.{◌≡◌, ℕ, zero, suc, ◌+◌, ◌<◌, ◌≤◌, true, ◌&&◌, eqb, List, [], ◌∷◌, ◌++◌, map, length, get_or, take, drop, set, sym, refl, ap, ◌∙◌, subst, append_assoc, arith}
+use Rattle.std.proofs.Common.{◌≡◌, ℕ, zero, suc, ◌+◌, ◌<◌, ◌≤◌, true, ◌&&◌, eqb, List, [], ◌∷◌, ◌++◌, map, length, get_or, take, drop, set, sym, refl, ap, ◌∙◌, append_assoc, arith}
 use Rattle.std.proofs.lemmas.List.{map_push, map-set, get_or-map, length-append, length-drop, length-take-le, take-append-le, drop-append-le, drop_at, take_at, take_all}
 use Rattle.std.proofs.lemmas.Bool.{and_parts, and_from, eqb-true, eq-eqb}
-use Rattle.book.specs.Books.{Offer, line_count, no_offer}
+use Rattle.book.specs.Books.{line_count, no_offer}
 use Rattle.book.specs.declared.line.Line.{Line}
 use Rattle.round.specs.Kept.{offer_of, in_rows}
 use Rattle.round.specs.Offering.{made, withdrawn}

@@ -4,25 +4,22 @@ use native.Mathlib.Bridge.{le_prop}
 use native.Mathlib.Nat.{ℕ_set}
 use mathlib.Core.Logic.{∥∥₁_elim}
 use Rattle.std.specs.List.{AllByRecursion as All}
-use Rattle.std.proofs.lemmas.List.{length-map, length-drop, length-take-le, get_or-take, get_or-drop, get_or_default, take_more, take_all}
+use Rattle.std.proofs.lemmas.List.{length-map, length-drop, length-take-le, get_or-take, get_or-drop}
 use Rattle.std.proofs.ByRecursion.{All-get_or}
 use Rattle.std.proofs.lemmas.Bool.{and_parts, eqb-true, eq-eqb, ne_eqb, cond-true, cond-false}
 use Rattle.tables.specs.Tables.{entries}
 use Rattle.tables.proofs.Entries.{length_entries}
 use Rattle.flow.specs.declared.arc.Arc.{Arc}
-use Rattle.flow.specs.Arcs.{blank, arc_at, flow_of}
-use Rattle.network.specs.Networks.{Net}
-use Rattle.network.specs.Networks as networks
+use Rattle.flow.specs.Arcs.{blank, flow_of}
 use Rattle.book.specs.Rows.{sum_with}
-use Rattle.book.specs.Books.{Book, Offer, no_offer, line_count, Fair, FairOffer, Sound}
+use Rattle.book.specs.Books.{Book, Offer, no_offer, Fair, FairOffer}
 use Rattle.book.specs.Allotments.{Allotment, price_of}
-use Rattle.book.specs.Arcs.{nodes, no_flows, arcs_of, arcs_before, give_at, get_at, allotment_of}
+use Rattle.book.specs.Arcs.{no_flows, arcs_of, arcs_before}
 use Rattle.book.specs.declared.line.Line.{Line}
-use Rattle.book.specs.declared.holding.Holding.{Holding}
 use Rattle.book.proofs.Filled.{sum_with_alike}
 use Rattle.book.proofs.Filled.{length_arcs}
 use Rattle.round.specs.Kept.{offer_of, in_rows, Entered}
-use Rattle.round.specs.Rounds.{book, with_offers}
+use Rattle.round.specs.Rounds.{with_offers}
 use Rattle.round.specs.Closed.{closed_book, closed_allotment}
 use Rattle.round.specs.Questions.{weeks_on, lines_on, units_on, offer_at, Moderate, Sided}
 use Rattle.round.specs.declared.entry.Entry.{Entry}

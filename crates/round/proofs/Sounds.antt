@@ -1,5 +1,5 @@
 -- Each call on an open round leaves its book sound.
-use Rattle.std.proofs.Common.{◌≡◌, ℕ, zero, suc, ◌+◌, ◌<◌, ◌≤◌, Bool, true, false, ◌⊎◌, List, [], ◌∷◌, ◌++◌, map, length, get_or, set, Some, None, Ok, Err, Option, Result, sym, refl, ap, ◌∙◌, subst, inl, inr, arith}
+use Rattle.std.proofs.Common.{◌≡◌, ℕ, zero, suc, ◌+◌, ◌<◌, ◌≤◌, List, [], ◌∷◌, ◌++◌, map, length, get_or, set, Some, None, Ok, Err, Option, Result, sym, refl, ap, ◌∙◌, subst, inl, inr, arith}
 use Rattle.std.specs.List.{ContainsAt as Has, AllByRecursion as All}
 use Rattle.std.proofs.lemmas.List.{map_push, length-set, get_or_append_left, get_or_push, length_push, get_or_default}
 use Rattle.std.proofs.ByRecursion.{All-get_or, All-from_get_or, All-weaker, All-push, All-set}
@@ -11,9 +11,9 @@ use Rattle.book.specs.Spelling.{name_bytes, Spelt}
 use Rattle.book.specs.Books.{Book, Offer, no_offer, pair, spot_of, Distinct, Twice, Any, item_of, line_count, FairHolding, Fair, Side, FairOffer, Sound}
 use Rattle.book.specs.declared.line.Line.{Line}
 use Rattle.book.specs.declared.holding.Holding.{Holding}
-use Rattle.round.specs.Rounds.{fresh, with_items, with_members, with_holdings, with_offers}
+use Rattle.round.specs.Rounds.{fresh}
 use Rattle.round.specs.Naming.{TakesItem, TakesMember}
-use Rattle.round.specs.Holdings.{put_at, placed, Crowded, Holds}
+use Rattle.round.specs.Holdings.{put_at, Holds}
 use Rattle.terms.specs.Lines.{Out}
 use Rattle.round.specs.Offering.{offering, TakesOffer, withdrawn, Withdraws}
 use Rattle.terms.proofs.Spots.{spot_some, spot_none}

@@ -1,11 +1,11 @@
 -- The law over whole uses of a round.
-use Rattle.std.proofs.Common.{◌≡◌, ℕ, ◌↔◌, List, [], Ok, Err, Result, sym, refl, ap, ◌∙◌, subst, subst₂}
+use Rattle.std.proofs.Common.{◌≡◌, ◌↔◌, List, Ok, Err, Result, sym, refl, ap, ◌∙◌, subst, subst₂}
 use Rattle.tables.specs.declared.refusal.Refusal.{Refusal}
 use Rattle.worth.specs.Kinds.{Ops, Laws}
 use Rattle.worth.specs.Integers.{money_laws, weeks_laws}
 use Rattle.worth.specs.Pairs.{pile_laws}
 use Rattle.flow.specs.Groups.{Kind, kind}
-use Rattle.flow.specs.Graphs.{Graph, Circulation, Within}
+use Rattle.flow.specs.Graphs.{Circulation, Within}
 use Rattle.flow.specs.Optimality as claims
 use Rattle.network.specs.Networks.{Net, flow_in, graph, value}
 use Rattle.search.specs.declared.improved.Improved.{Improved}
@@ -15,15 +15,13 @@ use Rattle.search.specs.Uses.{risen, summed, Unbeaten}
 use Rattle.search.specs.Uses as networks
 use Rattle.search.proofs.Standing as networks-law
 use Rattle.book.specs.Books.{Book, Sound}
-use Rattle.book.specs.Allotments.{Allotment, Allowed}
-use Rattle.book.specs.Arcs.{arcs_of, net_of, flowing, filled, NetworkOf}
+use Rattle.book.specs.Allotments.{Allowed}
+use Rattle.book.specs.Arcs.{arcs_of, net_of, filled, NetworkOf}
 use Rattle.book.specs.Agreement.{Circulates, BestAllotment}
 use Rattle.book.proofs.Networks.{network_flowing, graph_same}
 use Rattle.book.proofs.Sizes.{network_is_sound_lem}
 use Rattle.book.proofs.Best.{circulation_is_filled_lem, best_is_best_circulation_lem}
-use Rattle.round.specs.Rounds.{fresh}
-use Rattle.round.specs.Closed.{Closes}
-use Rattle.round.specs.Uses.{Accepted, an_item, a_member, a_holding, an_offer, a_withdrawal, with_call, left_by, Opened, begun, item, member, hold, offer, withdraw, OpenLaw, Use, closed, improved, cleared, allotted, Standing, Law, RoundLaw}
+use Rattle.round.specs.Uses.{Accepted, an_item, a_member, a_holding, an_offer, a_withdrawal, with_call, left_by, Opened, begun, item, member, hold, offer, withdraw, OpenLaw, Use, closed, improved, cleared, allotted, Law, RoundLaw}
 use Rattle.round.proofs.Sounds.{sound_fresh, sound_item, sound_member, sound_hold, sound_offer, sound_withdraw}
 use Rattle.round.specs.Carrying.{same_refl, same_trans}
 

@@ -9,17 +9,17 @@ use Rattle.std.proofs.lemmas.List.{length-set, get_or-set_same, get_or-set_other
 use Rattle.std.proofs.lemmas.Int.{ints, by_lt_z}
 use Rattle.std.proofs.lemmas.Bool.{cases_lt, cases_eq}
 use Rattle.tables.specs.declared.refusal.Refusal.{Refusal}
-use Rattle.tables.specs.Tables.{entries, unused}
+use Rattle.tables.specs.Tables.{entries}
 use Rattle.tables.proofs.Firsts.{not_first, not_rest}
 use Rattle.tables.proofs.Entries.{same_table}
 use Rattle.flow.specs.declared.arc.Arc.{Arc}
-use Rattle.flow.specs.Arcs.{blank, arc_at, flow_of, SameArc, SameArcs}
+use Rattle.flow.specs.Arcs.{blank, arc_at, flow_of, SameArcs}
 use Rattle.flow.proofs.Rows.{pushed_same}
 use Rattle.network.specs.Networks.{Net, SoundArc, with_flow, flow_in}
 use Rattle.network.specs.Networks as networks
 use Rattle.network.specs.Pushes.{ArcsPushed}
 use Rattle.book.specs.Books.{Book, Sound}
-use Rattle.book.specs.Arcs.{nodes, arcs_of, net_of, flowing, NetworkOf}
+use Rattle.book.specs.Arcs.{nodes, arcs_of}
 use Rattle.book.proofs.Networks.{network_flowing}
 use Rattle.book.proofs.Sizes.{network_is_sound_lem, flowing_is_sound}
 use Rattle.round.specs.Carried.{Carries}

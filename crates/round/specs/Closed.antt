@@ -1,5 +1,5 @@
 -- What a closed round holds, and what close does.
-use Rattle.std.specs.Prelude.{◌≡◌, ℕ}
+use Rattle.std.specs.Prelude.{◌≡◌}
 use Rattle.tables.specs.Tables.{entries, unused}
 use Rattle.network.specs.Networks.{Net, flow_in}
 use Rattle.book.specs.Books.{Book}

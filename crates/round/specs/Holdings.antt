@@ -1,6 +1,6 @@
 -- What hold does, and what holding answers.
 use Rattle.std.specs.Prelude.{◌≡◌, ℕ, ◌<◌, ◌≤◌, ◌⊎◌, List, [], ◌∷◌, ◌++◌, length, IfOk, Some, None, Option, Result, MatchResult, slice_set}
-use Rattle.tables.specs.Refusals.{Row, when, First, refusal}
+use Rattle.tables.specs.Refusals.{when, First, refusal}
 use Rattle.tables.specs.declared.refusal.Refusal.{Refusal}
 use Rattle.book.specs.Books.{Book, spot_of, held_by}
 use Rattle.book.specs.declared.holding.Holding.{Holding}

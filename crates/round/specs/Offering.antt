@@ -1,5 +1,5 @@
 -- What offer and withdraw do.
-use Rattle.std.specs.Prelude.{◌≡◌, ℕ, ◌+◌, ◌<◌, ◌≤◌, ◌⊎◌, List, [], ◌∷◌, ◌++◌, map, length, get_or, set, Result, MatchResult, slice_index_or, slice_set}
+use Rattle.std.specs.Prelude.{◌≡◌, ℕ, ◌+◌, ◌<◌, ◌≤◌, ◌⊎◌, List, [], ◌∷◌, ◌++◌, map, length, get_or, Result, MatchResult, slice_index_or, slice_set}
 use Rattle.tables.specs.Refusals.{Row, when, First, refusal}
 use Rattle.tables.specs.declared.refusal.Refusal.{Refusal}
 use Rattle.book.specs.Books.{Book, Offer, Twice, Loop, item_of, line_count, no_offer}

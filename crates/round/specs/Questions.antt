@@ -1,6 +1,6 @@
 -- What units and payoff answer.
 use Rattle.std.specs.Prelude.{◌≡◌, ℕ, ◌<◌, ◌≤◌, cond, ◌⊎◌, List, [], ◌∷◌, length, get_or, ℤ, IfOk, Result, ◌==◌, slice_index_or}
-use Rattle.tables.specs.Refusals.{Row, when, First, refusal}
+use Rattle.tables.specs.Refusals.{when, First, refusal}
 use Rattle.tables.specs.declared.refusal.Refusal.{Refusal}
 use Rattle.flow.specs.declared.arc.Arc.{Arc}
 use Rattle.flow.specs.Arcs.{flow_of}

@@ -1,4 +1,6 @@
 // Rounds of the exchange: open while they take offers, closed when they are cleared.
+#![tactic(auto)]
+
 pub mod closed_round;
 mod entry;
 pub mod offer_view;

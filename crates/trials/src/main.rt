@@ -1,4 +1,6 @@
 // Clears thousands of random small networks and compares each with the best of all its circulations.
+#![tactic(auto)]
+
 mod every;
 mod random;
 

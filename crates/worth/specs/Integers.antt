@@ -1,9 +1,9 @@
 -- The laws of money and of weeks.
-use Rattle.std.specs.Prelude.{◌≡◌, ℕ, zero, suc, ◌+◌, ◌-◌, ◌*◌, ◌/◌, ◌<◌, ◌≤◌, Bool, true, false, cond, List, [], ◌∷◌, length, ℤ, pos, negsuc, ◌+ℤ◌, ◌*ℤ◌, neg_ℤ, ◌≤ℤ◌, ◌<ℤ◌, int_lt, unsigned_abs, refl}
-use Rattle.std.proofs.Common.{sym, ap, ◌∙◌, arith, mul-zero, mul-suc}
+use Rattle.std.specs.Prelude.{◌≡◌, ℕ, zero, suc, ◌+◌, ◌≤◌, true, false, List, [], ◌∷◌, length, ℤ, pos, ◌+ℤ◌, ◌*ℤ◌, neg_ℤ, ◌≤ℤ◌, int_lt, unsigned_abs, refl}
+use Rattle.std.proofs.Common.{ap, ◌∙◌, arith, mul-suc}
 use borrow.Author.Differences.{ints, up, down}
 use Rattle.std.specs.List.{AllByRecursion as All}
-use Rattle.worth.specs.Kinds.{Ops, Laws, repeated, Rises, RisesFrom}
+use Rattle.worth.specs.Kinds.{Laws, repeated, Rises, RisesFrom}
 use Rattle.worth.specs.Money.{of_cents, money}
 use Rattle.worth.specs.Weeks.{of_count, weeks}
 use Rattle.worth.specs.declared.money.Money.{Money}

@@ -1,5 +1,5 @@
 -- Two kinds of worth piled up.
-use Rattle.std.specs.Prelude.{ℕ, ◌*◌, max, Bool, true, false, cond}
+use Rattle.std.specs.Prelude.{◌*◌, max, Bool, true, false, cond}
 use Rattle.worth.specs.Kinds.{Ops}
 use Rattle.worth.specs.declared.lexicographic.Lexicographic.{Lexicographic}
 

@@ -1,7 +1,6 @@
 -- What the laws give.
-use Rattle.std.specs.Prelude.{◌≡◌, Bool, true, false, cond, ◌⊎◌, refl}
-use Rattle.std.proofs.Common.{sym, ap, ◌∙◌, inl, inr}
-use Rattle.worth.specs.Kinds.{Ops, Laws, repeated, Rises, RisesFrom}
+use Rattle.std.specs.Prelude.{◌≡◌, Bool, true, false, refl}
+use Rattle.worth.specs.Kinds.{Ops, Laws}
 
 pub data Tri {M : Type 0} (o : Ops M) (x y : M) : Type 0 where
   below : o.less x y ≡ true → o.less y x ≡ false → Tri o x y

@@ -1,10 +1,10 @@
 -- The laws of two kinds piled up.
-use Rattle.std.specs.Prelude.{◌≡◌, ℕ, zero, suc, ◌+◌, ◌*◌, ◌<◌, ◌≤◌, max, Bool, true, false, cond, ◌⊎◌, List, [], ◌∷◌, length, ℤ, pos, negsuc, refl}
-use Rattle.std.proofs.Common.{sym, ap, ap₂, subst, ◌∙◌, inl, inr, arith, mul-zero, mul-suc, mul-le-mul_left, mul-le-mul_right, mul_comm}
+use Rattle.std.specs.Prelude.{◌≡◌, ℕ, zero, suc, ◌+◌, ◌*◌, ◌≤◌, max, true, false, ◌⊎◌, List, [], ◌∷◌, length, refl}
+use Rattle.std.proofs.Common.{sym, ap, ap₂, ◌∙◌, inl, inr, arith, mul-suc, mul-le-mul_left, mul_comm}
 use Rattle.std.specs.List.{AllByRecursion as All}
 use Rattle.worth.specs.Kinds.{Ops, Laws, repeated, Rises, RisesFrom}
 use Rattle.worth.specs.Lexicographic.{before, pair, pile}
-use Rattle.worth.specs.Orders.{Tri, below, same, above, asym, tri}
+use Rattle.worth.specs.Orders.{Tri, below, same, above, tri}
 use Rattle.worth.specs.declared.lexicographic.Lexicographic.{Lexicographic}
 
 module _ {F S : Type 0} {a : Ops F} {b : Ops S} (la : Laws a) (lb : Laws b) where

@@ -1,5 +1,5 @@
 -- Weeks as a kind of worth.
-use Rattle.std.specs.Prelude.{ℕ, ℤ, pos, ◌+ℤ◌, ◌*ℤ◌, neg_ℤ, int_lt, unsigned_abs}
+use Rattle.std.specs.Prelude.{ℤ, pos, ◌+ℤ◌, ◌*ℤ◌, neg_ℤ, int_lt, unsigned_abs}
 use Rattle.worth.specs.Kinds.{Ops}
 use Rattle.worth.specs.declared.weeks.Weeks.{Weeks}
 

@@ -1,4 +1,6 @@
 // Kinds of worth: what they share, money, weeks, and any two piled up.
+#![tactic(auto)]
+
 pub mod kind;
 pub mod lexicographic;
 pub mod money;

@@ -3,8 +3,8 @@ use Rattle.haul_table.specs.Roads.{hauled}
 use Rattle.haul.proofs.Words.{taken}
 use Rattle.haul.proofs.reading.add_road.Goals as goal
 
-pub returns-in-default : goal.returns-in-default
-returns-in-default g c = record { road = λ x w. absurd (c.in-default.ensures x w); other = λ _. (refl, refl) }
+pub returns-in_default : goal.returns-in_default
+returns-in_default g c = record { road = λ x w. absurd (c.in_default.ensures x w); other = λ _. (refl, refl) }
 
 pub returns : goal.returns
 returns g c =

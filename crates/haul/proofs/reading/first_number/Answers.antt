@@ -3,19 +3,19 @@ use Rattle.std.proofs.lemmas.Str.Pattern.{split_parts}
 use Rattle.haul.proofs.Words.{none_begins, begins_word, number_passed}
 use Rattle.haul.proofs.reading.first_number.Goals as goal
 
-pub returns-in-err-word : goal.returns-in-err-word
-returns-in-err-word c = rw c.from-residual.ensures (λ z rest b. none_begins c.args.text.now rest z (split_parts 32 c.args.text.now None c.in-err-word.ensures.cases (omega arith)) b)
+pub returns-in_err-word : goal.returns-in_err-word
+returns-in_err-word c = rw c.from_residual.ensures (λ z rest b. none_begins c.args.text.now rest z (split_parts 32 c.args.text.now None c.in_err-word.ensures.cases (omega arith)) b)
 
-pub returns-in-err-number : goal.returns-in-err-number
-returns-in-err-number c =
-    let word = c.in-ok-word.word in
-    let after = c.in-ok-word.rest in
-    let p = split_parts 32 c.args.text.now (Some (word, after)) c.in-ok-word.ensures.cases (omega arith) in
-    rw c.from-residual-in-err-number.ensures (λ z rest b. c.in-err-number.ensures z (begins_word c.args.text.now word.now after.now rest z p.0 p.1 b).0)
+pub returns-in_err-number : goal.returns-in_err-number
+returns-in_err-number c =
+    let word = c.in_ok-word.word in
+    let after = c.in_ok-word.rest in
+    let p = split_parts 32 c.args.text.now (Some (word, after)) c.in_ok-word.ensures.cases (omega arith) in
+    rw c.from_residual-in_err-number.ensures (λ z rest b. c.in_err-number.ensures z (begins_word c.args.text.now word.now after.now rest z p.0 p.1 b).0)
 
 pub returns : goal.returns
 returns c =
-    let word = c.in-ok-word.word in
-    let after = c.in-ok-word.rest in
-    let p = split_parts 32 c.args.text.now (Some (word, after)) c.in-ok-word.ensures.cases (omega arith) in
-    record { word = word.now; whole = p.0; number = number_passed word.now c.in-ok-number.field-0 c.in-ok-number.ensures }
+    let word = c.in_ok-word.word in
+    let after = c.in_ok-word.rest in
+    let p = split_parts 32 c.args.text.now (Some (word, after)) c.in_ok-word.ensures.cases (omega arith) in
+    record { word = word.now; whole = p.0; number = number_passed word.now c.in_ok-number.field-0 c.in_ok-number.ensures }

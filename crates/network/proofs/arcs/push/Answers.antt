@@ -1,4 +1,4 @@
-use Rattle.std.proofs.Common.{◌≡◌, pos, ◌+ℤ◌, sym, ap, ◌∙◌, subst, arith, w64}
+use Rattle.std.proofs.Common.{pos, ◌+ℤ◌, ap, ◌∙◌, subst, w64}
 use Rattle.std.proofs.lemmas.Int.{to_z-of_z}
 use Rattle.tables.specs.Tables.{entries, Replaced}
 use Rattle.flow.specs.Arcs.{blank}

@@ -1,5 +1,4 @@
 use Rattle.std.proofs.Common.{arith}
-use Rattle.flow.specs.declared.arc.Arc.{Arc}
 use Rattle.network.proofs.Reading.{sound_arc}
 use Rattle.network.proofs.Circulations.{can_count, count_more}
 use Rattle.network.proofs.circulation.add_flows.Goals as goal

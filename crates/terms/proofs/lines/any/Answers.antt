@@ -1,7 +1,6 @@
-use Rattle.std.proofs.Common.{◌≡◌, ℕ, ◌<◌, true, false, length, get_or, sym, refl, ap, ◌∙◌, subst, arith, below_more}
+use Rattle.std.proofs.Common.{◌<◌, false, length, refl, subst, arith, below_more}
 use Rattle.std.proofs.lemmas.List.{get_or_default}
 use Rattle.std.proofs.lemmas.Bool.{both_ways}
-use Rattle.book.specs.declared.line.Line.{Line}
 use Rattle.terms.proofs.lines.any.Goals as goal
 
 pub returns-then-test : goal.returns-then-test

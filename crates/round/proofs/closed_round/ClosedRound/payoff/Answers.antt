@@ -1,4 +1,4 @@
-use Rattle.std.proofs.Common.{◌*◌, cond, eqb, pos, ◌-ℤ◌, refl, ap, ◌∙◌, ap₂, arith, w64, SFits, rules}
+use Rattle.std.proofs.Common.{◌*◌, cond, eqb, pos, ◌-ℤ◌, refl, ◌∙◌, ap₂, arith, w64, SFits, rules}
 use Rattle.std.proofs.lemmas.Int.{to_z-of_z}
 use Rattle.tables.proofs.Firsts.{next}
 use Rattle.round.specs.Closed.{closed_book, closed_allotment}

@@ -1,4 +1,4 @@
-use Rattle.std.proofs.Common.{◌≡◌, ◌++◌, length, take}
+use Rattle.std.proofs.Common.{◌≡◌, ◌++◌, take}
 use Rattle.tables.specs.Tables.{entries}
 use Rattle.book.specs.Arcs.{holding_arcs, no_flows}
 use Rattle.round.proofs.open_round.OpenRound.add_holdings.Given as goal

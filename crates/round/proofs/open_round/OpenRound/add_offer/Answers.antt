@@ -1,4 +1,4 @@
-use Rattle.std.proofs.Common.{◌≡◌, ◌+◌, ◌≤◌, ◌++◌, map, length, ap, ◌∙◌, arith}
+use Rattle.std.proofs.Common.{◌+◌, ◌++◌, map, length, ap, ◌∙◌, arith}
 use Rattle.tables.specs.Tables.{entries}
 use Rattle.book.specs.Arcs.{give_arc, own_arc, get_arc}
 use Rattle.round.specs.Kept.{offer_of}

@@ -1,4 +1,4 @@
-use Rattle.std.proofs.Common.{ap, ◌∙◌, arith}
+use Rattle.std.proofs.Common.{ap, ◌∙◌}
 use Rattle.tables.specs.Tables.{entries}
 use Rattle.book.specs.Books.{spot_of}
 use Rattle.round.proofs.Calls.{put_there}

@@ -1,6 +1,6 @@
 use Rattle.std.proofs.Common.{refl, arith}
 use Rattle.tables.proofs.Entries.{length_entries, take_set_in, drop_set_before}
-use Rattle.tables.proofs.Firsts.{next, here}
+use Rattle.tables.proofs.Firsts.{next}
 use Rattle.tables.proofs.table.Table.set.Goals as goal
 
 pub returns-then-i-self : goal.returns-then-i-self

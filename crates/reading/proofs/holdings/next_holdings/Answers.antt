@@ -10,13 +10,13 @@ loop-init c = begin HoldingsOnly holding (λ x. length x.holdings) 128 _ _ _ hol
 
 pub loop-preserved : goal.loop-preserved
 loop-preserved c =
-    let h = c.in-ok-next-holding.field-0 in
-    again HoldingsOnly holding (λ x. length x.holdings) 128 c.args.n c.loop.counter (λ y. with_line holding h y) (λ x y q. record { kind = q.kind; offers = q.offers; levels = q.levels }) (λ y. one_longer y.holdings h) c.loop.invariant c.loop-test.true (λ y e l. c.in-ok-next-holding.ensures y e l)
+    let h = c.in_ok-next_holding.field-0 in
+    again HoldingsOnly holding (λ x. length x.holdings) 128 c.args.n c.loop.counter (λ y. with_line holding h y) (λ x y q. record { kind = q.kind; offers = q.offers; levels = q.levels }) (λ y. one_longer y.holdings h) c.loop.invariant c.loop-test.true (λ y e l. c.in_ok-next_holding.ensures y e l)
 
-pub returns-in-err-next-holding : goal.returns-in-err-next-holding
-returns-in-err-next-holding c x due e le =
-    let p = err_from_is_err_and c.from-residual.result c.from-residual.ensures.1 in
-    rw (p.1, p.2) (stopped HoldingsOnly holding (λ x. length x.holdings) 128 c.args.n c.loop.counter _ c.loop.invariant c.loop-test.true (λ y e l. c.in-err-next-holding.ensures y e l) x due e le)
+pub returns-in_err-next_holding : goal.returns-in_err-next_holding
+returns-in_err-next_holding c x due e le =
+    let p = err_from_is_err_and c.from_residual.result c.from_residual.ensures.1 in
+    rw (p.1, p.2) (stopped HoldingsOnly holding (λ x. length x.holdings) 128 c.args.n c.loop.counter _ c.loop.invariant c.loop-test.true (λ y e l. c.in_err-next_holding.ensures y e l) x due e le)
 
 pub returns : goal.returns
 returns c x due e le = gained HoldingsOnly holding (λ x. length x.holdings) 128 c.args.n c.loop.counter c.loop.invariant (omega arith) x due e le

@@ -5,13 +5,13 @@ use Rattle.reading.specs.Reading.{HoldingsOnly}
 use Rattle.reading.proofs.Gains.{past}
 use Rattle.reading.proofs.holdings.read_holdings.Goals as goal
 
-pub returns-in-err-n : goal.returns-in-err-n
-returns-in-err-n c x due e none =
-    let p = err_from_is_err_and c.from-residual.result c.from-residual.ensures.1 in
-    rw (p.1, p.2) (c.in-err-n.ensures.read x (λ n _. tt) (λ n _. omega arith) (λ n o h. h) due)
+pub returns-in_err-n : goal.returns-in_err-n
+returns-in_err-n c x due e none =
+    let p = err_from_is_err_and c.from_residual.result c.from_residual.ensures.1 in
+    rw (p.1, p.2) (c.in_err-n.ensures.read x (λ n _. tt) (λ n _. omega arith) (λ n o h. h) due)
 
 pub returns : goal.returns
 returns c x due e none =
-    let h = c.in-ok-n.ensures in
+    let h = c.in_ok-n.ensures in
     let few = h.within.1 in
-    past HoldingsOnly _ _ due x x c.args.reader.now c.next-count.new.reader c.next-holdings.new.reader (book c.next-holdings.new.round) (h.read x (λ n _. tt) (λ n _. omega arith) (λ n o h. h) due) (λ z q. q) c.next-holdings.result (c.next-holdings.ensures x due e (omega arith))
+    past HoldingsOnly _ _ due x x c.args.reader.now c.next_count.new.reader c.next_holdings.new.reader (book c.next_holdings.new.round) (h.read x (λ n _. tt) (λ n _. omega arith) (λ n o h. h) due) (λ z q. q) c.next_holdings.result (c.next_holdings.ensures x due e (omega arith))

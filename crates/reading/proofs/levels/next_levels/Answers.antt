@@ -12,16 +12,16 @@ loop-init c = no_level (kind_as c.args.kind) c.args.n c.args.reader.now (entries
 pub loop-preserved : goal.loop-preserved
 loop-preserved c =
     let ls = entries c.loop.levels in
-    let v = c.in-ok-level.level in
+    let v = c.in_ok-level.level in
     let few = c.requires in
     let counted = c.loop.invariant.count in
     let all = entries c.push.new.self in
-    one_level (kind_as c.args.kind) c.args.n c.loop.counter ls c.loop.invariant c.loop-test.true v all (grew 272 ls all (v ∷ []) c.push.result c.push.ensures (omega arith)) c.in-ok-level.ensures
+    one_level (kind_as c.args.kind) c.args.n c.loop.counter ls c.loop.invariant c.loop-test.true v all (grew 272 ls all (v ∷ []) c.push.result c.push.ensures (omega arith)) c.in_ok-level.ensures
 
-pub returns-in-err-level : goal.returns-in-err-level
-returns-in-err-level c x due e none =
-    let p = err_from_is_err_and c.from-residual.result c.from-residual.ensures.1 in
-    rw (p.1, p.2) (stopped_level (kind_as c.args.kind) c.args.n c.loop.counter (entries c.loop.levels) c.loop.invariant c.loop-test.true _ c.in-err-level.ensures x due e none)
+pub returns-in_err-level : goal.returns-in_err-level
+returns-in_err-level c x due e none =
+    let p = err_from_is_err_and c.from_residual.result c.from_residual.ensures.1 in
+    rw (p.1, p.2) (stopped_level (kind_as c.args.kind) c.args.n c.loop.counter (entries c.loop.levels) c.loop.invariant c.loop-test.true _ c.in_err-level.ensures x due e none)
 
 pub returns : goal.returns
 returns c = all_levels (kind_as c.args.kind) c.args.n c.loop.counter (entries c.loop.levels) c.loop.invariant (omega arith)

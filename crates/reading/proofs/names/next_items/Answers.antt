@@ -12,13 +12,13 @@ loop-init c = begin ItemsOnly item (λ x. length x.items) 16 _ _ _ items_itself
 
 pub loop-preserved : goal.loop-preserved
 loop-preserved c =
-    let name = c.in-ok-next-item.field-0.now in
-    again ItemsOnly item (λ x. length x.items) 16 c.args.n c.loop.counter (λ y. with_line item name y) (λ x y h. record { kind = h.kind; members = h.members; holdings = h.holdings; offers = h.offers; levels = h.levels }) (λ y. one_longer y.items name) c.loop.invariant c.loop-test.true (λ y e l. c.in-ok-next-item.ensures y e (an_item y c.loop.round e) l)
+    let name = c.in_ok-next_item.field-0.now in
+    again ItemsOnly item (λ x. length x.items) 16 c.args.n c.loop.counter (λ y. with_line item name y) (λ x y h. record { kind = h.kind; members = h.members; holdings = h.holdings; offers = h.offers; levels = h.levels }) (λ y. one_longer y.items name) c.loop.invariant c.loop-test.true (λ y e l. c.in_ok-next_item.ensures y e (an_item y c.loop.round e) l)
 
-pub returns-in-err-next-item : goal.returns-in-err-next-item
-returns-in-err-next-item c x due e le =
-    let p = err_from_is_err_and c.from-residual.result c.from-residual.ensures.1 in
-    rw (p.1, p.2) (stopped ItemsOnly item (λ x. length x.items) 16 c.args.n c.loop.counter _ c.loop.invariant c.loop-test.true (λ y e l. c.in-err-next-item.ensures y e (an_item y c.loop.round e) l) x due e le)
+pub returns-in_err-next_item : goal.returns-in_err-next_item
+returns-in_err-next_item c x due e le =
+    let p = err_from_is_err_and c.from_residual.result c.from_residual.ensures.1 in
+    rw (p.1, p.2) (stopped ItemsOnly item (λ x. length x.items) 16 c.args.n c.loop.counter _ c.loop.invariant c.loop-test.true (λ y e l. c.in_err-next_item.ensures y e (an_item y c.loop.round e) l) x due e le)
 
 pub returns : goal.returns
 returns c x due e le = gained ItemsOnly item (λ x. length x.items) 16 c.args.n c.loop.counter c.loop.invariant (omega arith) x due e le

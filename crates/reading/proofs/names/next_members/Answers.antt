@@ -11,13 +11,13 @@ loop-init c = begin MembersOnly member (λ x. length x.members) 32 _ _ _ members
 
 pub loop-preserved : goal.loop-preserved
 loop-preserved c =
-    let name = c.in-ok-next-member.field-0.now in
-    again MembersOnly member (λ x. length x.members) 32 c.args.n c.loop.counter (λ y. with_line member name y) (λ x y h. record { kind = h.kind; holdings = h.holdings; offers = h.offers; levels = h.levels }) (λ y. one_longer y.members name) c.loop.invariant c.loop-test.true (λ y e l. c.in-ok-next-member.ensures y e l)
+    let name = c.in_ok-next_member.field-0.now in
+    again MembersOnly member (λ x. length x.members) 32 c.args.n c.loop.counter (λ y. with_line member name y) (λ x y h. record { kind = h.kind; holdings = h.holdings; offers = h.offers; levels = h.levels }) (λ y. one_longer y.members name) c.loop.invariant c.loop-test.true (λ y e l. c.in_ok-next_member.ensures y e l)
 
-pub returns-in-err-next-member : goal.returns-in-err-next-member
-returns-in-err-next-member c x due e le =
-    let p = err_from_is_err_and c.from-residual.result c.from-residual.ensures.1 in
-    rw (p.1, p.2) (stopped MembersOnly member (λ x. length x.members) 32 c.args.n c.loop.counter _ c.loop.invariant c.loop-test.true (λ y e l. c.in-err-next-member.ensures y e l) x due e le)
+pub returns-in_err-next_member : goal.returns-in_err-next_member
+returns-in_err-next_member c x due e le =
+    let p = err_from_is_err_and c.from_residual.result c.from_residual.ensures.1 in
+    rw (p.1, p.2) (stopped MembersOnly member (λ x. length x.members) 32 c.args.n c.loop.counter _ c.loop.invariant c.loop-test.true (λ y e l. c.in_err-next_member.ensures y e l) x due e le)
 
 pub returns : goal.returns
 returns c x due e le = gained MembersOnly member (λ x. length x.members) 32 c.args.n c.loop.counter c.loop.invariant (omega arith) x due e le

@@ -6,14 +6,14 @@ use Rattle.reading.specs.Reading.{RowOf}
 use Rattle.reading.proofs.Nexts.{missing, refined, row_to, row_from, row_line}
 use Rattle.reading.proofs.next.next_row.Goals as goal
 
-pub returns-in-err-line : goal.returns-in-err-line
-returns-in-err-line g c =
-    let p = err_from_is_err_and c.from-residual.result c.from-residual.ensures.1 in
+pub returns-in_err-line : goal.returns-in_err-line
+returns-in_err-line g c =
+    let p = err_from_is_err_and c.from_residual.result c.from_residual.ensures.1 in
     let notation = g.T.Numeral.notation in
-    rw (p.1, p.2) (missing (SpellsRow notation g.row.N) c.in-err-line.ensures (row_line notation g.row.N c.args.reader.now.rest))
+    rw (p.1, p.2) (missing (SpellsRow notation g.row.N) c.in_err-line.ensures (row_line notation g.row.N c.args.reader.now.rest))
 
 pub returns : goal.returns
 returns g c =
     let r = c.numbers.result in
     let notation = g.T.Numeral.notation in
-    refined (RowOf notation g.row.N) (SpellsRow notation g.row.N) c.in-ok-line.line c.in-ok-line.ensures (row_to notation g.row.N _) (row_from notation g.row.N _) r c.numbers.ensures c.at-line.result (c.at-line.ensures ∙ ap (λ k. result_at k r) c.line-number-number.ensures)
+    refined (RowOf notation g.row.N) (SpellsRow notation g.row.N) c.in_ok-line.line c.in_ok-line.ensures (row_to notation g.row.N _) (row_from notation g.row.N _) r c.numbers.ensures c.at_line.result (c.at_line.ensures ∙ ap (λ k. result_at k r) c.line_number-number.ensures)

@@ -5,16 +5,16 @@ use Rattle.reading.proofs.Sides.{begin, again, stopped}
 use Rattle.reading.proofs.offer_line.next_lines.Goals as goal
 
 pub loop-init : goal.loop-init
-loop-init c = begin c.args.items c.args.give.now c.args.n (entries c.no-lines-lines.result) (entries c.args.units.now) c.args.reader.now c.no-lines-lines.ensures
+loop-init c = begin c.args.items c.args.give.now c.args.n (entries c.no_lines-lines.result) (entries c.args.units.now) c.args.reader.now c.no_lines-lines.ensures
 
-pub returns-in-err-filled : goal.returns-in-err-filled
-returns-in-err-filled c =
-    let p = err_from_is_err_and c.from-residual.result c.from-residual.ensures.1 in
+pub returns-in_err-filled : goal.returns-in_err-filled
+returns-in_err-filled c =
+    let p = err_from_is_err_and c.from_residual.result c.from_residual.ensures.1 in
     let n = c.args.n in
     let d = c.loop.invariant (suc (n - (c.loop.counter + 1))) (omega (arith, c.loop-test.true)) in
-    rw (p.1, p.2) (stopped c.args.items c.args.give.now n d c.as-slice.ensures _ c.in-err-filled.ensures.read)
+    rw (p.1, p.2) (stopped c.args.items c.args.give.now n d c.as_slice.ensures _ c.in_err-filled.ensures.read)
 
 pub loop-preserved : goal.loop-preserved
 loop-preserved c m q =
-    let h = c.in-ok-filled.ensures in
-    again c.args.items c.args.give.now c.args.n (c.loop.invariant (suc m) (omega arith)) c.as-slice.ensures c.in-ok-filled.filled c.requires h.fair h.read c.push.result c.push-in-loop.result c.push.ensures c.push-in-loop.ensures
+    let h = c.in_ok-filled.ensures in
+    again c.args.items c.args.give.now c.args.n (c.loop.invariant (suc m) (omega arith)) c.as_slice.ensures c.in_ok-filled.filled c.requires h.fair h.read c.push.result c.push-in-loop.result c.push.ensures c.push-in-loop.ensures

@@ -14,7 +14,7 @@ returns-in-Ok c =
     let head = c.args.head in
     added_withdrawn (book c.args.round.now) head.member head.limit c.args.give.now c.args.get.now c.if-head-gt0.false (book c.offer-else-head-gt0.new.self) (book c.withdraw.new.self) c.in-Ok.number c.withdraw.result c.in-Ok.ensures.outcome c.withdraw.ensures.outcome
 
-pub returns-in-default : goal.returns-in-default
-returns-in-default c =
+pub returns-in_default : goal.returns-in_default
+returns-in_default c =
     let head = c.args.head in
-    never_refused (book c.args.round.now) head.member head.limit c.args.give.now c.args.get.now c.if-head-gt0.false (book c.offer-else-head-gt0.new.self) c.offer-else-head-gt0.result c.offer-else-head-gt0.ensures.outcome c.in-default.not-Ok
+    never_refused (book c.args.round.now) head.member head.limit c.args.give.now c.args.get.now c.if-head-gt0.false (book c.offer-else-head-gt0.new.self) c.offer-else-head-gt0.result c.offer-else-head-gt0.ensures.outcome c.in_default.not-Ok

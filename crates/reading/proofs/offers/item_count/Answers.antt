@@ -4,8 +4,8 @@ use Rattle.terms.specs.Names.{letters}
 use Rattle.reading.proofs.Taken.{few_items}
 use Rattle.reading.proofs.offers.item_count.Goals as goal
 
-pub overflow-cast-result : goal.overflow-cast-result
-overflow-cast-result c = omega (arith, few_items c.args.round.now, length-map c.item-names.result.now letters, ap length c.item-names.ensures)
+pub overflow_cast-result : goal.overflow_cast-result
+overflow_cast-result c = omega (arith, few_items c.args.round.now, length-map c.item_names.result.now letters, ap length c.item_names.ensures)
 
 pub returns : goal.returns
-returns c = sym (length-map c.item-names.result.now letters) ∙ ap length c.item-names.ensures
+returns c = sym (length-map c.item_names.result.now letters) ∙ ap length c.item_names.ensures

@@ -9,12 +9,12 @@ pub loop-init : goal.loop-init
 loop-init c = begin c.args.n c.args.reader.now (book c.args.round.now) (entries c.args.units.now)
 
 pub loop-preserved : goal.loop-preserved
-loop-preserved c = again c.args.n c.loop.counter c.loop.invariant c.loop-test.true c.in-ok-next-offer.ensures
+loop-preserved c = again c.args.n c.loop.counter c.loop.invariant c.loop-test.true c.in_ok-next_offer.ensures
 
-pub returns-in-err-next-offer : goal.returns-in-err-next-offer
-returns-in-err-next-offer c x due e u le =
-    let p = err_from_is_err_and c.from-residual.result c.from-residual.ensures.1 in
-    rw (p.1, p.2) (stopped c.args.n c.loop.counter c.loop.invariant _ c.loop-test.true c.in-err-next-offer.ensures x due e u le)
+pub returns-in_err-next_offer : goal.returns-in_err-next_offer
+returns-in_err-next_offer c x due e u le =
+    let p = err_from_is_err_and c.from_residual.result c.from_residual.ensures.1 in
+    rw (p.1, p.2) (stopped c.args.n c.loop.counter c.loop.invariant _ c.loop-test.true c.in_err-next_offer.ensures x due e u le)
 
 pub returns : goal.returns
 returns c = gathered c.args.n c.loop.counter c.loop.invariant (omega arith)

@@ -1,6 +1,6 @@
 use Rattle.std.proofs.Common.{get_or, pos, w64, SFits, rules}
 use Rattle.std.proofs.lemmas.Int.{to_z-of_z}
-use Rattle.reading.specs.Kinds.{kind_as}
+use Rattle.reading.specs.Kinds.{kind as kind_as}
 use Rattle.reading.proofs.LevelLines.{IsLevel, told_as, one_number, two_numbers}
 use Rattle.reading.proofs.levels.next_numbers.Goals as goal
 

@@ -1,6 +1,6 @@
 use Rattle.std.proofs.Common.{sym, ap}
 use Rattle.layout.specs.Render.{kind_section}
-use Rattle.reading.specs.Kinds.{kind_as}
+use Rattle.reading.specs.Kinds.{kind as kind_as}
 use Rattle.record.proofs.Adding.{adds_same, adds_then}
 use Rattle.record.proofs.file.sections.write_kind.Goals as goal
 

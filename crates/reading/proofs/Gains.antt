@@ -5,13 +5,13 @@ use Rattle.text.specs.declared.fault.Fault.{Fault}
 use Rattle.text.specs.declared.reader.Reader.{Reader}
 use Rattle.book.specs.Books.{Book}
 use Rattle.layout.specs.Layout.{Slot}
-use Rattle.reading.specs.Reading.{Onward, Stops, ItemsOnly, MembersOnly, HoldingsOnly, Gained, Ends}
+use Rattle.reading.specs.Reading.{Onward, Stops, ItemsOnly, MembersOnly, HoldingsOnly, Gained, GainedOnly, Ends}
 use Rattle.layout.specs.Records.{Contents, book_of}
 use Rattle.layout.specs.Runs.{reads, ComesTo, ends, trails}
 
 -- k of n lines are read, and each has added one to the size, which n more keep within its most
 abbrev pub Gaining : (Contents → Contents → Type 0) → Slot → (Contents → ℕ) → ℕ → ℕ → ℕ → Reader → Reader → Book → Book → Type 0
-Gaining Stays s size most n k before after start held = (x : Contents) (due : List Slot) → book_of x ≡ start → size x + n ≤ most → (m : ℕ) → k + m ≡ n → (g : Gained Stays (replicate n s ++ due) x before (replicate m s ++ due) after held) × (size g.contents ≡ size x + k)
+Gaining Stays s size most n k before after start held = (x : Contents) (due : List Slot) → book_of x ≡ start → size x + n ≤ most → (m : ℕ) → k + m ≡ n → (g : GainedOnly Stays (replicate n s ++ due) x before (replicate m s ++ due) after held) × (size g.contents ≡ size x + k)
 
 module _ (Stays : Contents → Contents → Type 0) (s : Slot) (size : Contents → ℕ) (most n : ℕ) where
   pub begin : (before : Reader) (start : Book) → ((y : Contents) → Stays y y) → Gaining Stays s size most n 0 before before start start
@@ -49,7 +49,7 @@ module _ (Stays : Contents → Contents → Type 0) (s : Slot) (size : Contents 
       h.0.onward _ (stop h.0.contents h.0.holds (omega (arith, h.1)) (replicate m s ++ due))
 
   -- all are read
-  pub gained : (k : ℕ) {before after : Reader} {start held : Book} → Gaining Stays s size most n k before after start held → k ≡ n → (x : Contents) (due : List Slot) → book_of x ≡ start → size x + n ≤ most → Gained Stays (replicate n s ++ due) x before due after held
+  pub gained : (k : ℕ) {before after : Reader} {start held : Book} → Gaining Stays s size most n k before after start held → k ≡ n → (x : Contents) (due : List Slot) → book_of x ≡ start → size x + n ≤ most → GainedOnly Stays (replicate n s ++ due) x before due after held
   gained k g q x due e le = (g x due e le 0 (omega arith)).0
 
 pub one_longer : {X : Type 0} (xs : List X) (x : X) → length (xs ++ x ∷ []) ≡ length xs + 1
@@ -57,9 +57,17 @@ one_longer [] x = refl
 one_longer (y ∷ ys) x = omega (arith, one_longer ys x)
 
 -- lines after others
-pub past : (Stays : Contents → Contents → Type 0) (due next last : List Slot) (x y : Contents) (before middle after : Reader) (held : Book) → Onward due x before next y middle → ((z : Contents) → Stays y z → Stays x z) → (r : Result (Unit {0}) Fault) → MatchResult r (λ _. Gained Stays next y middle last after held) (λ f. Stops next y middle f) → MatchResult r (λ _. Gained Stays due x before last after held) (λ f. Stops due x before f)
+pub past : (Stays : Contents → Contents → Type 0) (due next last : List Slot) (x y : Contents) (before middle after : Reader) (held : Book) → Onward due x before next y middle → ((z : Contents) → Stays y z → Stays x z) → (r : Result (Unit {0}) Fault) → MatchResult r (λ _. GainedOnly Stays next y middle last after held) (λ f. Stops next y middle f) → MatchResult r (λ _. GainedOnly Stays due x before last after held) (λ f. Stops due x before f)
 past Stays due next last x y before middle after held on stay (Ok u) g = record { contents = g.contents; onward = λ o h. on o (g.onward o h); holds = g.holds; stays = stay g.contents g.stays }
 past Stays due next last x y before middle after held on stay (Err f) g = on _ g
+
+-- of what stays the kind, the offers and the levels
+pub plain : {Stays : Contents → Contents → Type 0} {due last : List Slot} {x : Contents} {before after : Reader} {held : Book} → ((y : Contents) → Stays x y → HoldingsOnly x y) → GainedOnly Stays due x before last after held → Gained due x before last after held
+plain stay g = let h = stay g.contents g.stays in record { contents = g.contents; onward = g.onward; holds = g.holds; kind = h.kind; offers = h.offers; levels = h.levels }
+
+pub taken : (Stays : Contents → Contents → Type 0) (due last : List Slot) (x : Contents) (before after : Reader) (held : Book) → ((y : Contents) → Stays x y → HoldingsOnly x y) → (r : Result (Unit {0}) Fault) → MatchResult r (λ _. GainedOnly Stays due x before last after held) (λ f. Stops due x before f) → MatchResult r (λ _. Gained due x before last after held) (λ f. Stops due x before f)
+taken Stays due last x before after held stay (Ok u) g = plain stay g
+taken Stays due last x before after held stay (Err f) g = g
 
 -- the first of some lines
 pub first_due : (s : Slot) (n : ℕ) → 1 ≤ n → replicate n s ≡ s ∷ replicate (n - 1) s

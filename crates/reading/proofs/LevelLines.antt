@@ -13,7 +13,7 @@ use Rattle.text.specs.declared.section.Section.TheVariants.{Levels}
 use Rattle.book.specs.Arcs.{nodes}
 use Rattle.layout.specs.Layout.{Slot, level, Short, Counts, spell, Fits, rules, with_line}
 use Rattle.layout.specs.Records.{Kind, by_money, by_money_then_weeks, Contents, book_of, parts, level_size}
-use Rattle.reading.specs.Kinds.{kind_as}
+use Rattle.reading.specs.Kinds.{kind as kind_as}
 use Rattle.reading.specs.Levels.{numbers, with_levels}
 use Rattle.reading.specs.Reading.{Onward, Stops}
 use Rattle.reading.specs.declared.kind.Kind.{Kind as Told}

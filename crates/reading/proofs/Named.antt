@@ -19,7 +19,7 @@ IsName bytes name = name.now ≡ bytes
 
 -- each name can be referred to
 pub referred : (at : Bor (List ℕ)) (name : List ℕ) → (v : Bor (List ℕ)) × IsName name v
-referred at name = (record { ref_ptr = at.ref_ptr; ghost_name = at.name; now = name }, refl)
+referred at name = (record { ref_ptr = at.ref_ptr; now = name }, refl)
 
 pub member_rules : (x : Contents) (b after : Book) (name : List ℕ) (r : Result ℕ Refusal) → book_of x ≡ b → length x.members < 32 → TakesMember b after name r → First (rules member x name) (refusal r)
 member_rules x b after name r e few t = let u = subst (λ c. TakesMember c after name r) (sym e) t in u.refused.1 (λ h. omega arith)

@@ -78,7 +78,7 @@ name_line bytes x e = (line.Name x, record { sorted = refl; bytes_are = sym e; s
 -- Rows
 
 pub row_line : {X : Type 0} (notation : Notation X) (n : ℕ) (at : Bor (List ℕ)) (bytes : List ℕ) (xs : List X) → SpellsRow notation n bytes xs → (l : Line) × Says sort.Row bytes l
-row_line notation n at bytes xs i = (line.Row (record { bytes = record { ref_ptr = at.ref_ptr; ghost_name = at.name; now = bytes } }), record { sorted = refl; bytes_are = refl; short = tt })
+row_line notation n at bytes xs i = (line.Row (record { bytes = record { ref_ptr = at.ref_ptr; now = bytes } }), record { sorted = refl; bytes_are = refl; short = tt })
 
 pub row_to : {X : Type 0} (notation : Notation X) (n : ℕ) (l : Line) (bytes : List ℕ) → Says sort.Row bytes l → (xs : List X) → RowOf notation n l xs → SpellsRow notation n bytes xs
 row_to notation n l bytes p xs r = let q = subst (λ m. Says sort.Row bytes m) r.is p in subst (λ bs. SpellsRow notation n bs xs) (sym q.bytes_are) r.spells

@@ -19,7 +19,7 @@ use Rattle.round.specs.Rounds.{book}
 use Rattle.round.specs.declared.open_round.OpenRound.{OpenRound}
 use Rattle.reading.specs.Contents.{ReadingLaw}
 use Rattle.reading.specs.Held.{units_in, filled_offers, held}
-use Rattle.reading.specs.Kinds.{kind_as}
+use Rattle.reading.specs.Kinds.{kind as kind_as}
 use Rattle.reading.specs.Levels.{numbers, with_levels}
 use Rattle.reading.specs.declared.kind.Kind.{Kind}
 use Rattle.reading.specs.declared.level.Level.{Level}

@@ -2,7 +2,7 @@
 use Rattle.std.specs.Prelude.{ℕ, ◌+◌, List, [], ◌∷◌, ◌++◌, map, length, drop, slice_index}
 use Rattle.book.specs.Books.{Book, Offer}
 use Rattle.layout.specs.Records.{OfferWithUnits, Contents, units_of, fill_offer}
-use Rattle.reading.specs.Kinds.{kind_as}
+use Rattle.reading.specs.Kinds.{kind as kind_as}
 use Rattle.reading.specs.Levels.{numbers}
 use Rattle.reading.specs.declared.kind.Kind.{Kind}
 use Rattle.reading.specs.declared.level.Level.{Level}

@@ -8,10 +8,10 @@ abbrev pub count_of : Told → ℕ
 count_of Money = 1
 count_of MoneyThenWeeks = 2
 
-abbrev pub kind_as : Told → Kind
-kind_as Money = by_money
-kind_as MoneyThenWeeks = by_money_then_weeks
+abbrev pub kind : Told → Kind
+kind Money = by_money
+kind MoneyThenWeeks = by_money_then_weeks
 
 -- the contents with this kind
 abbrev pub of_kind : Told → Contents → Contents
-of_kind k x = record { kind = kind_as k; items = x.items; members = x.members; holdings = x.holdings; offers = x.offers; levels = x.levels }
+of_kind k x = record { kind = kind k; items = x.items; members = x.members; holdings = x.holdings; offers = x.offers; levels = x.levels }

@@ -75,8 +75,17 @@ pub record HoldingsOnly (x y : Contents) : Type 0 where
   pub offers : y.offers ≡ x.offers
   pub levels : y.levels ≡ x.levels
 
--- lines were read that were due, and the round holds what they say besides these contents, of which the rest stays
-pub record Gained (Stays : Contents → Contents → Type 0) (due : List Slot) (x : Contents) (before : Reader) (due' : List Slot) (after : Reader) (held : Book) : Type 0 where
+-- lines were read that were due, and the round holds what they say besides these contents, whose kind, offers and levels stay
+pub record Gained (due : List Slot) (x : Contents) (before : Reader) (due' : List Slot) (after : Reader) (held : Book) : Type 0 where
+  pub contents : Contents
+  pub onward : Onward due x before due' contents after
+  pub holds : book_of contents ≡ held
+  pub kind : contents.kind ≡ x.kind
+  pub offers : contents.offers ≡ x.offers
+  pub levels : contents.levels ≡ x.levels
+
+-- the same, where all of the contents stays that Stays names
+pub record GainedOnly (Stays : Contents → Contents → Type 0) (due : List Slot) (x : Contents) (before : Reader) (due' : List Slot) (after : Reader) (held : Book) : Type 0 where
   pub contents : Contents
   pub onward : Onward due x before due' contents after
   pub holds : book_of contents ≡ held
@@ -92,12 +101,18 @@ pub record OffersGained (due : List Slot) (x : Contents) (before : Reader) (due'
   pub levels : contents.levels ≡ x.levels
 
 -- n lines of this sort were read so; or the text is refused at one of them
-abbrev pub AllTaken : (Contents → Contents → Type 0) → Slot → ℕ → Contents → List Slot → Reader → Reader → Book → Result (Unit {0}) Fault → Type 0
-AllTaken Stays s n x due before after held r = MatchResult r (λ _. Gained Stays (replicate n s ++ due) x before due after held) (λ f. Stops (replicate n s ++ due) x before f)
+abbrev pub AllTaken : Slot → ℕ → Contents → List Slot → Reader → Reader → Book → Result (Unit {0}) Fault → Type 0
+AllTaken s n x due before after held r = MatchResult r (λ _. Gained (replicate n s ++ due) x before due after held) (λ f. Stops (replicate n s ++ due) x before f)
+
+abbrev pub AllTakenOnly : (Contents → Contents → Type 0) → Slot → ℕ → Contents → List Slot → Reader → Reader → Book → Result (Unit {0}) Fault → Type 0
+AllTakenOnly Stays s n x due before after held r = MatchResult r (λ _. GainedOnly Stays (replicate n s ++ due) x before due after held) (λ f. Stops (replicate n s ++ due) x before f)
 
 -- a section was read so, from its head on; or the text is refused in it
-abbrev pub SectionTaken : (Contents → Contents → Type 0) → Section → Contents → List Slot → Reader → Reader → Book → Result (Unit {0}) Fault → Type 0
-SectionTaken Stays s x due before after held r = MatchResult r (λ _. Gained Stays (head s ∷ due) x before due after held) (λ f. Stops (head s ∷ due) x before f)
+abbrev pub SectionTaken : Section → Contents → List Slot → Reader → Reader → Book → Result (Unit {0}) Fault → Type 0
+SectionTaken s x due before after held r = MatchResult r (λ _. Gained (head s ∷ due) x before due after held) (λ f. Stops (head s ∷ due) x before f)
+
+abbrev pub SectionTakenOnly : (Contents → Contents → Type 0) → Section → Contents → List Slot → Reader → Reader → Book → Result (Unit {0}) Fault → Type 0
+SectionTakenOnly Stays s x due before after held r = MatchResult r (λ _. GainedOnly Stays (head s ∷ due) x before due after held) (λ f. Stops (head s ∷ due) x before f)
 
 -- the heads that are due after the section of the kind, and after that of the holdings
 abbrev pub after_holdings : List Slot

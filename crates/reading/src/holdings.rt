@@ -5,7 +5,7 @@ ghost use Rattle.layout.specs.Layout.{Slot, holding as a_holding, rules, with_li
 ghost use Rattle.layout.specs.Records.{Contents, book_of};
 ghost use Rattle.round.specs.Rounds.{book};
 ghost use Rattle.reading.specs.Bounds.{Clamped};
-ghost use Rattle.reading.specs.Reading.{Taken, HoldingsOnly, AllTaken, SectionTaken};
+ghost use Rattle.reading.specs.Reading.{Taken, HoldingsOnly, AllTakenOnly, SectionTakenOnly};
 
 use super::bounds::clamp;
 use super::heads::next_count;
@@ -61,7 +61,7 @@ pub(crate) fn next_holdings(
     round: &mut OpenRound,
     n: u64,
 ) -> Result<(), Fault>
-    ensures { (x : Contents) (due : List Slot) → book_of x ≡ book round.old → length x.holdings + n ≤ 128 → AllTaken HoldingsOnly a_holding n x due reader.old reader.new (book round.new) result }
+    ensures { (x : Contents) (due : List Slot) → book_of x ≡ book round.old → length x.holdings + n ≤ 128 → AllTakenOnly HoldingsOnly a_holding n x due reader.old reader.new (book round.new) result }
 {
     for _ in 0..n {
         next_holding(reader, round)?;
@@ -71,7 +71,7 @@ pub(crate) fn next_holdings(
 
 // The section of the holdings.
 pub(crate) fn read_holdings(reader: &mut Reader<'_>, round: &mut OpenRound) -> Result<(), Fault>
-    ensures { (x : Contents) (due : List Slot) → book_of x ≡ book round.old → length x.holdings ≡ 0 → SectionTaken HoldingsOnly HoldingsSection x due reader.old reader.new (book round.new) result }
+    ensures { (x : Contents) (due : List Slot) → book_of x ≡ book round.old → length x.holdings ≡ 0 → SectionTakenOnly HoldingsOnly HoldingsSection x due reader.old reader.new (book round.new) result }
 {
     let n = next_count(reader, Section::Holdings, 0, 128)?;
     next_holdings(reader, round, n)

@@ -6,7 +6,7 @@ ghost use Rattle.text.specs.declared.section.Section.TheVariants.{Levels as Leve
 ghost use Rattle.book.specs.Arcs.{nodes as node_count};
 ghost use Rattle.layout.specs.Layout.{Slot, head, level as a_level};
 ghost use Rattle.layout.specs.Records.{Contents, book_of, parts, level_size};
-ghost use Rattle.reading.specs.Kinds.{kind_as};
+ghost use Rattle.reading.specs.Kinds.{kind as kind_as};
 ghost use Rattle.reading.specs.Levels.{numbers, with_levels};
 ghost use Rattle.reading.specs.Reading.{ReadNext, LineRead, Onward, Stops};
 

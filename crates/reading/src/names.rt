@@ -1,6 +1,6 @@
 ghost use Rattle.std.specs.Prelude.{◌≡◌, ◌+◌, ◌<◌, ◌≤◌, List, length, codes, Decides};
 ghost use Rattle.layout.specs.Layout.{Slot, item as an_item, member as a_member};
-ghost use Rattle.reading.specs.Reading.{LineRead, Taken, ItemsOnly, MembersOnly, AllTaken};
+ghost use Rattle.reading.specs.Reading.{LineRead, Taken, AllTaken, ItemsOnly, MembersOnly, AllTakenOnly};
 ghost use Rattle.layout.specs.Records.{Contents, book_of};
 ghost use Rattle.round.specs.Rounds.{book};
 
@@ -64,7 +64,8 @@ pub(crate) fn next_items(
     round: &mut OpenRound,
     n: u64,
 ) -> Result<(), Fault>
-    ensures { (x : Contents) (due : List Slot) → book_of x ≡ book round.old → length x.items + n ≤ 16 → AllTaken ItemsOnly an_item n x due reader.old reader.new (book round.new) result }
+    ensures taken { (x : Contents) (due : List Slot) → book_of x ≡ book round.old → length x.items + n ≤ 16 → AllTaken an_item n x due reader.old reader.new (book round.new) result }
+    ensures only { (x : Contents) (due : List Slot) → book_of x ≡ book round.old → length x.items + n ≤ 16 → AllTakenOnly ItemsOnly an_item n x due reader.old reader.new (book round.new) result }
 {
     for _ in 0..n {
         next_item(reader, round)?;
@@ -78,7 +79,8 @@ pub(crate) fn next_members(
     round: &mut OpenRound,
     n: u64,
 ) -> Result<(), Fault>
-    ensures { (x : Contents) (due : List Slot) → book_of x ≡ book round.old → length x.members + n ≤ 32 → AllTaken MembersOnly a_member n x due reader.old reader.new (book round.new) result }
+    ensures taken { (x : Contents) (due : List Slot) → book_of x ≡ book round.old → length x.members + n ≤ 32 → AllTaken a_member n x due reader.old reader.new (book round.new) result }
+    ensures only { (x : Contents) (due : List Slot) → book_of x ≡ book round.old → length x.members + n ≤ 32 → AllTakenOnly MembersOnly a_member n x due reader.old reader.new (book round.new) result }
 {
     for _ in 0..n {
         next_member(reader, round)?;

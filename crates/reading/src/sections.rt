@@ -1,7 +1,7 @@
 ghost use Rattle.std.specs.Prelude.{◌≡◌, List, ◌∷◌, length, codes, MatchResult};
 ghost use Rattle.reading.specs.Kinds.{of_kind};
 ghost use Rattle.layout.specs.Layout.{Slot, head, item, with_line};
-ghost use Rattle.reading.specs.Reading.{Onward, Stops, ItemsOnly, MembersOnly, SectionTaken, Ends};
+ghost use Rattle.reading.specs.Reading.{Onward, Stops, SectionTaken, ItemsOnly, MembersOnly, SectionTakenOnly, Ends};
 ghost use Rattle.layout.specs.Records.{Contents, book_of};
 ghost use Rattle.round.specs.Rounds.{book};
 ghost use Rattle.text.specs.declared.section.Section.TheVariants.{Kinds as KindsSection, Items as ItemsSection, Members as MembersSection};
@@ -31,7 +31,8 @@ pub(crate) fn read_kind(reader: &mut Reader<'_>) -> Result<Kind, Fault>
 
 // The section of the items' names, of which the round has the first.
 pub(crate) fn read_items(reader: &mut Reader<'_>, round: &mut OpenRound) -> Result<(), Fault>
-    ensures { (x : Contents) (due : List Slot) → length x.items ≡ 0 → book_of (with_line item (codes "cash") x) ≡ book round.old → SectionTaken ItemsOnly ItemsSection x due reader.old reader.new (book round.new) result }
+    ensures taken { (x : Contents) (due : List Slot) → length x.items ≡ 0 → book_of (with_line item (codes "cash") x) ≡ book round.old → SectionTaken ItemsSection x due reader.old reader.new (book round.new) result }
+    ensures only { (x : Contents) (due : List Slot) → length x.items ≡ 0 → book_of (with_line item (codes "cash") x) ≡ book round.old → SectionTakenOnly ItemsOnly ItemsSection x due reader.old reader.new (book round.new) result }
 {
     let n = next_count(reader, Section::Items, 1, 16)?;
     next_cash(reader)?;
@@ -40,7 +41,8 @@ pub(crate) fn read_items(reader: &mut Reader<'_>, round: &mut OpenRound) -> Resu
 
 // The section of the members' names.
 pub(crate) fn read_members(reader: &mut Reader<'_>, round: &mut OpenRound) -> Result<(), Fault>
-    ensures { (x : Contents) (due : List Slot) → book_of x ≡ book round.old → length x.members ≡ 0 → SectionTaken MembersOnly MembersSection x due reader.old reader.new (book round.new) result }
+    ensures taken { (x : Contents) (due : List Slot) → book_of x ≡ book round.old → length x.members ≡ 0 → SectionTaken MembersSection x due reader.old reader.new (book round.new) result }
+    ensures only { (x : Contents) (due : List Slot) → book_of x ≡ book round.old → length x.members ≡ 0 → SectionTakenOnly MembersOnly MembersSection x due reader.old reader.new (book round.new) result }
 {
     let n = next_count(reader, Section::Members, 0, 32)?;
     next_members(reader, round, n)

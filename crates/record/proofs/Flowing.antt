@@ -19,7 +19,7 @@ use Rattle.book.specs.declared.line.Line.{Line}
 use Rattle.book.proofs.Filled.{laid_as_row, length_arcs}
 use Rattle.layout.specs.Records.{LineWithUnits, OfferWithUnits, Contents, no_filled_offer, line_of, units_of, units_on, offer_of, book_of, allotted}
 use Rattle.record.specs.Evidence.{network_of}
-use Rattle.record.specs.Flows.{offer_row, given_from, flows_of, Stands, Shows, with_flows}
+use Rattle.record.specs.Flows.{flow_row, given_from, flows_of, Stands, Shows, with_flows}
 use Rattle.record.specs.declared.network.filled.FilledOffer.{FilledOffer}
 use Rattle.record.proofs.Showing.{Bounded, stands_none}
 
@@ -44,12 +44,12 @@ abbrev allotment : List OfferWithUnits → Allotment
 allotment os k = record { give = units_on (get_or os k no_filled_offer).give; get = units_on (get_or os k no_filled_offer).get }
 
 module _ (n : ℕ) (hs : List Holding) where
-  flows_offer : (p : ℕ) (o : OfferWithUnits) → flows (offer_arcs n hs p (offer_of o) (record { give = units_on o.give; own = all_of (map line_of o.give) (units_on o.give); get = units_on o.get })) ≡ offer_row o
+  flows_offer : (p : ℕ) (o : OfferWithUnits) → flows (offer_arcs n hs p (offer_of o) (record { give = units_on o.give; own = all_of (map line_of o.give) (units_on o.give); get = units_on o.get })) ≡ flow_row o
   flows_offer p o =
       map-append (λ a. a.flow) (map_with (give_arc n hs o.member p) (map line_of o.give) (units_on o.give)) (own_arc p o.limit (all_of (map line_of o.give) (units_on o.give)) ∷ map_with (get_arc (p + 1)) (map line_of o.get) (units_on o.get))
       ∙ ap₂ ◌++◌ (flows_side (give_arc n hs o.member p) (λ l y. refl) o.give) (ap₂ ◌∷◌ (all_given o.give) (flows_side (get_arc (p + 1)) (λ l y. refl) o.get))
 
-  flows_offers : (p : ℕ) (os : List OfferWithUnits) → flows (offers_arcs n hs p (map offer_of os) (offer_flows (map offer_of os) (allotment os))) ≡ flat_map offer_row os
+  flows_offers : (p : ℕ) (os : List OfferWithUnits) → flows (offers_arcs n hs p (map offer_of os) (offer_flows (map offer_of os) (allotment os))) ≡ flat_map flow_row os
   flows_offers p [] = refl
   flows_offers p (o ∷ os) =
       map-append (λ a. a.flow) (offer_arcs n hs p (offer_of o) (offer_flows (map offer_of (o ∷ os)) (allotment (o ∷ os)) 0)) (offers_arcs n hs (p + 2) (map offer_of os) (offer_flows (map offer_of os) (allotment os)))
@@ -102,7 +102,7 @@ offer_added a b c d given got y r s t room ab bc cd =
 -- the flows on the arcs of the holdings and of the first k offers, whose units end at n
 pub record Rowed (x : Contents) (k n : ℕ) (row : List ℕ) : Type 0 where
   pub stands : Stands x.offers k n
-  pub is : row ≡ map (given_from x) x.holdings ++ flat_map offer_row (take k x.offers)
+  pub is : row ≡ map (given_from x) x.holdings ++ flat_map flow_row (take k x.offers)
   pub long : length row ≤ 128 + (n + k)
 
 module _ (x : Contents) (bs : Bounded x) where
@@ -110,7 +110,7 @@ module _ (x : Contents) (bs : Bounded x) where
   rowed_none row e = record { stands = stands_none x.offers; is = e ∙ sym (append-nil (map (given_from x) x.holdings)); long = omega (arith, bs.holdings, ap length e, length-map x.holdings (given_from x)) }
 
   pub rowed_all : (k n : ℕ) (row : List ℕ) → Rowed x k n row → length x.offers ≤ k → row ≡ flows_of x
-  rowed_all k n row q l = q.is ∙ ap (λ os. map (given_from x) x.holdings ++ flat_map offer_row os) (take_all k x.offers l)
+  rowed_all k n row q l = q.is ∙ ap (λ os. map (given_from x) x.holdings ++ flat_map flow_row os) (take_all k x.offers l)
 
   module _ (k n : ℕ) (row : List ℕ) (q : Rowed x k n row) (v : FilledOffer) (shows : Shows x k n v) where
     pub room : length row + (length v.given.now + length v.got.now) < 448
@@ -120,9 +120,9 @@ module _ (x : Contents) (bs : Bounded x) where
     rowed_more m after em e =
         let o = get_or x.offers k no_filled_offer in
         let held = map (given_from x) x.holdings in
-        let same : v.given.now ++ (sum v.given.now ∷ v.got.now) ≡ offer_row o = (λ i. shows.given i ++ (sum (shows.given i) ∷ shows.got i)) in
+        let same : v.given.now ++ (sum v.given.now ∷ v.got.now) ≡ flow_row o = (λ i. shows.given i ++ (sum (shows.given i) ∷ shows.got i)) in
         record {
           stands = subst (Stands x.offers (k + 1)) (sym em) shows.next;
-          is = e ∙ (λ i. q.is i ++ same i) ∙ flat_map_more offer_row held (take k x.offers) o ∙ ap (λ os. held ++ flat_map offer_row os) (sym (take_more x.offers k no_filled_offer shows.known));
+          is = e ∙ (λ i. q.is i ++ same i) ∙ flat_map_more flow_row held (take k x.offers) o ∙ ap (λ os. held ++ flat_map flow_row os) (sym (take_more x.offers k no_filled_offer shows.known));
           long = omega (arith, q.long, ap length e, length-append row (v.given.now ++ (sum v.given.now ∷ v.got.now)), length-append v.given.now (sum v.given.now ∷ v.got.now));
         }

@@ -11,8 +11,8 @@ use Rattle.reading.specs.Held.{units_in}
 use Rattle.record.specs.declared.network.filled.FilledOffer.{FilledOffer}
 
 -- the flows on an offer's arcs in order: on its give lines, on its own arc all units that it gives, on its get lines
-abbrev pub offer_row : OfferWithUnits → List ℕ
-offer_row o = map units_of o.give ++ (sum (map units_of o.give) ∷ map units_of o.get)
+abbrev pub flow_row : OfferWithUnits → List ℕ
+flow_row o = map units_of o.give ++ (sum (map units_of o.give) ∷ map units_of o.get)
 
 -- the flow on a holding's arc: all units given from it
 abbrev pub given_from : Contents → Holding → ℕ
@@ -20,7 +20,7 @@ given_from x h = given_by (book_of x).offers (allotted x) h.member h.item
 
 -- the flows on all arcs in order
 abbrev pub flows_of : Contents → List ℕ
-flows_of x = map (given_from x) x.holdings ++ flat_map offer_row x.offers
+flows_of x = map (given_from x) x.holdings ++ flat_map flow_row x.offers
 
 -- in the row of all units, those of offer k and the next begin at n
 pub record Stands (os : List OfferWithUnits) (k n : ℕ) : Type 0 where

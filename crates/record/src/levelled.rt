@@ -3,7 +3,7 @@ ghost use Rattle.std.proofs.Common.{sym, subst};
 ghost use Rattle.worth.specs.Money.{of_cents};
 ghost use Rattle.worth.specs.Weeks.{of_count};
 ghost use Rattle.layout.specs.Records.{Kind as Sort, by_money, by_money_then_weeks};
-ghost use Rattle.reading.specs.Kinds.{kind_as};
+ghost use Rattle.reading.specs.Kinds.{kind as kind_as};
 ghost use Rattle.reading.specs.declared.level.Level.{Level as Numbers};
 ghost use Rattle.record.specs.Levels.{Levelled as Told};
 ghost use Rattle.worth.specs.Money as SpecsMoney;

@@ -3,7 +3,7 @@ ghost use Rattle.layout.specs.Records.{book_of};
 ghost use Rattle.round.specs.Rounds.{book};
 ghost use Rattle.reading.specs.Contents.{contents};
 ghost use Rattle.reading.specs.Held.{units_in};
-ghost use Rattle.reading.specs.Kinds.{kind_as};
+ghost use Rattle.reading.specs.Kinds.{kind as kind_as};
 ghost use Rattle.reading.specs.Levels.{numbers};
 
 use super::super::kind::Kind;

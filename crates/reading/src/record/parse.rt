@@ -7,7 +7,7 @@ ghost use Rattle.round.specs.Rounds.{book};
 ghost use Rattle.reading.specs.Contents.{Reading, ReadingLaw};
 ghost use Rattle.reading.specs.Held.{held};
 ghost use Rattle.reading.specs.Kinds.{of_kind};
-ghost use Rattle.reading.specs.Reading.{HoldingsOnly, Gained, Stops, after_kind, after_holdings};
+ghost use Rattle.reading.specs.Reading.{HoldingsOnly, GainedOnly, Stops, after_kind, after_holdings};
 ghost use Rattle.reading.specs.declared.kind.Kind.{Kind as Told};
 
 use super::super::holdings::read_holdings;
@@ -32,7 +32,7 @@ struct Parts {
 
 // The sections of the items, the members and the holdings.
 fn read_round(reader: &mut Reader<'_>) -> Result<OpenRound, Fault>
-    ensures { (k : Told) → MatchResult result (λ x. Gained HoldingsOnly after_kind (of_kind k nothing) reader.old after_holdings reader.new (book x)) (λ f. Stops after_kind (of_kind k nothing) reader.old f) }
+    ensures { (k : Told) → MatchResult result (λ x. GainedOnly HoldingsOnly after_kind (of_kind k nothing) reader.old after_holdings reader.new (book x)) (λ f. Stops after_kind (of_kind k nothing) reader.old f) }
 {
     let mut round = OpenRound::open();
     read_items(reader, &mut round)?;

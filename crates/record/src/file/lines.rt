@@ -1,7 +1,7 @@
 ghost use Rattle.std.specs.Prelude.{[], ◌∷◌};
 ghost use Rattle.text.specs.Rows.{row_spelt};
 ghost use Rattle.layout.specs.Layout.{head, level as a_level, spell};
-ghost use Rattle.reading.specs.Kinds.{kind_as};
+ghost use Rattle.reading.specs.Kinds.{kind as kind_as};
 ghost use Rattle.reading.specs.Levels.{numbers};
 ghost use Rattle.record.specs.Writing.{Adds};
 

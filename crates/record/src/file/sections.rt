@@ -3,7 +3,7 @@ ghost use Rattle.terms.specs.Names.{letters};
 ghost use Rattle.text.specs.declared.section.Section.TheVariants.{Holdings, Levels};
 ghost use Rattle.layout.specs.Layout.{head, holding as a_holding, level as a_level, spell};
 ghost use Rattle.layout.specs.Render.{section as section_of, kind_section};
-ghost use Rattle.reading.specs.Kinds.{kind_as};
+ghost use Rattle.reading.specs.Kinds.{kind as kind_as};
 ghost use Rattle.reading.specs.Levels.{numbers};
 ghost use Rattle.record.specs.Writing.{Adds};
 

@@ -2,7 +2,7 @@ use Rattle.std.proofs.Common.{sym, ◌∙◌}
 use Rattle.std.proofs.lemmas.Result.{err_from_is_err_and}
 use Rattle.tables.specs.declared.refusal.Refusal.TheVariants.{Bounds}
 use Rattle.layout.specs.Layout.{level}
-use Rattle.reading.specs.Kinds.{kind_as}
+use Rattle.reading.specs.Kinds.{kind as kind_as}
 use Rattle.reading.specs.Levels.{numbers}
 use Rattle.reading.proofs.LevelLines.{IsLevel, level_from, level_fits, too_large, not_too_large}
 use Rattle.reading.proofs.Steps.{missed, sound, faulty}

@@ -2,7 +2,7 @@ use Rattle.std.proofs.Common.{[], ◌∷◌, arith}
 use Rattle.std.proofs.lemmas.Result.{err_from_is_err_and}
 use Rattle.tables.specs.Tables.{entries}
 use Rattle.tables.proofs.Entries.{grew}
-use Rattle.reading.specs.Kinds.{kind_as}
+use Rattle.reading.specs.Kinds.{kind as kind_as}
 use Rattle.reading.proofs.LevelLines.{no_level, one_level, stopped_level, all_levels}
 use Rattle.reading.proofs.levels.next_levels.Goals as goal
 

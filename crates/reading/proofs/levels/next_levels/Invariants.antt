@@ -1,5 +1,5 @@
 use Rattle.tables.specs.Tables.{entries}
-use Rattle.reading.specs.Kinds.{kind_as}
+use Rattle.reading.specs.Kinds.{kind as kind_as}
 use Rattle.reading.proofs.LevelLines.{Levelling}
 use Rattle.reading.proofs.levels.next_levels.Given as goal
 

@@ -1,20 +1,20 @@
 use Rattle.std.proofs.Common.{get_or, pos, w64, SFits, rules}
 use Rattle.std.proofs.lemmas.Int.{to_z-of_z}
-use Rattle.reading.specs.Kinds.{kind_as}
+use Rattle.reading.specs.Kinds.{kind as kind_as}
 use Rattle.reading.proofs.LevelLines.{IsLevel, told_as, one_number, two_numbers}
 use Rattle.reading.proofs.levels.next_numbers.Goals as goal
 
-pub returns-in_ok-row : goal.returns-in_ok-row
-returns-in_ok-row c =
+pub returns-in_ok-row-in-Money : goal.returns-in_ok-row-in-Money
+returns-in_ok-row-in-Money c =
     let k = c.args.kind in
-    let row = c.in_ok-row.row in
+    let row = c.in_ok-row-in-Money.row in
     let cents : SFits w64 (get_or row 0 (pos 0)) = search rules in
-    told_as (IsLevel (kind_as k)) _ c.in_ok-row.ensures (one_number k c.in-Money.is row _ (to_z-of_z w64 _ cents))
+    told_as (IsLevel (kind_as k)) _ c.in_ok-row-in-Money.ensures (one_number k c.in-Money.is row _ (to_z-of_z w64 _ cents))
 
-pub returns-in_ok-row-2 : goal.returns-in_ok-row-2
-returns-in_ok-row-2 c =
+pub returns-in_ok-row-in-MoneyThenWeeks : goal.returns-in_ok-row-in-MoneyThenWeeks
+returns-in_ok-row-in-MoneyThenWeeks c =
     let k = c.args.kind in
-    let row = c.in_ok-row-2.row in
+    let row = c.in_ok-row-in-MoneyThenWeeks.row in
     let cents : SFits w64 (get_or row 0 (pos 0)) = search rules in
     let weeks : SFits w64 (get_or row 1 (pos 0)) = search rules in
-    told_as (IsLevel (kind_as k)) _ c.in_ok-row-2.ensures (two_numbers k c.in-MoneyThenWeeks.is row _ (to_z-of_z w64 _ cents) (to_z-of_z w64 _ weeks))
+    told_as (IsLevel (kind_as k)) _ c.in_ok-row-in-MoneyThenWeeks.ensures (two_numbers k c.in-MoneyThenWeeks.is row _ (to_z-of_z w64 _ cents) (to_z-of_z w64 _ weeks))

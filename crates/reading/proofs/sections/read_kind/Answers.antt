@@ -23,15 +23,15 @@ returns-in-Money c x due =
     let on = first_word c.in_ok-kind.kind Money c.in-Money.is x c.args.reader.now c.next_kind.new.reader (c.in_ok-kind.ensures x) due in
     λ o h. on o (c.in_ok-next_word.ensures (of_kind Money x) due o h)
 
-pub returns-in_err-next_word-2 : goal.returns-in_err-next_word-2
-returns-in_err-next_word-2 c x due =
-    let p = err_from_is_err_and c.from_residual-in_err-next_word-2.result c.from_residual-in_err-next_word-2.ensures.1 in
+pub returns-in_err-next_word-in-MoneyThenWeeks : goal.returns-in_err-next_word-in-MoneyThenWeeks
+returns-in_err-next_word-in-MoneyThenWeeks c x due =
+    let p = err_from_is_err_and c.from_residual-in_err-next_word-in-MoneyThenWeeks.result c.from_residual-in_err-next_word-in-MoneyThenWeeks.ensures.1 in
     let on = first_word c.in_ok-kind.kind MoneyThenWeeks c.in-MoneyThenWeeks.is x c.args.reader.now c.next_kind.new.reader (c.in_ok-kind.ensures x) due in
     let more = c.in_ok-next_word.ensures (of_kind MoneyThenWeeks x) (word (codes "weeks") ∷ due) in
-    rw (p.1, p.2) (on _ (more _ (c.in_err-next_word-2.ensures (of_kind MoneyThenWeeks x) due)))
+    rw (p.1, p.2) (on _ (more _ (c.in_err-next_word-in-MoneyThenWeeks.ensures (of_kind MoneyThenWeeks x) due)))
 
-pub returns-in_ok-next_word-2 : goal.returns-in_ok-next_word-2
-returns-in_ok-next_word-2 c x due =
+pub returns-in_ok-next_word-in-MoneyThenWeeks : goal.returns-in_ok-next_word-in-MoneyThenWeeks
+returns-in_ok-next_word-in-MoneyThenWeeks c x due =
     let on = first_word c.in_ok-kind.kind MoneyThenWeeks c.in-MoneyThenWeeks.is x c.args.reader.now c.next_kind.new.reader (c.in_ok-kind.ensures x) due in
     let more = c.in_ok-next_word.ensures (of_kind MoneyThenWeeks x) (word (codes "weeks") ∷ due) in
-    λ o h. on o (more o (c.in_ok-next_word-2.ensures (of_kind MoneyThenWeeks x) due o h))
+    λ o h. on o (more o (c.in_ok-next_word-in-MoneyThenWeeks.ensures (of_kind MoneyThenWeeks x) due o h))

@@ -20,53 +20,53 @@ few x ls v e = omega (arith, few_levels x v, ap length e, length-map ls (numbers
 same : (x : Contents) (k : Kind) (ls : List Level) → x.kind ≡ k → map (numbers x.kind) ls ≡ x.levels → map (numbers k) ls ≡ x.levels
 same x k ls e h = ap (λ j. map (numbers j) ls) (sym e) ∙ h
 
-pub returns-in-err-read : goal.returns-in-err-read
-returns-in-err-read c =
-    let p = err_from_is_err_and c.from-residual.result c.from-residual.ensures.1 in
-    rw (p.1, p.2) (record { outcome = inl c.in-err-read.ensures.outcome; law = evidence })
+pub returns-in_err-read : goal.returns-in_err-read
+returns-in_err-read c =
+    let p = err_from_is_err_and c.from_residual.result c.from_residual.ensures.1 in
+    rw (p.1, p.2) (record { outcome = inl c.in_err-read.ensures.outcome; law = evidence })
 
-pub returns-in-err-worth : goal.returns-in-err-worth
-returns-in-err-worth c =
-    let p = err_from_is_err_and c.from-residual-in-err-worth.result c.from-residual-in-err-worth.ensures.1 in
+pub returns-in_err-worth-in-Money : goal.returns-in_err-worth-in-Money
+returns-in_err-worth-in-Money c =
+    let p = err_from_is_err_and c.from_residual-in_err-worth-in-Money.result c.from_residual-in_err-worth-in-Money.ensures.1 in
     let text = c.args.text.now in
-    let x = contents c.in-ok-read.read in
-    let r = c.in-ok-read.ensures.outcome in
+    let x = contents c.in_ok-read.read in
+    let r = c.in_ok-read.ensures.outcome in
     let v = valid_read text x r in
     let k = sym c.in-Money.ensures in
     let levels = c.levels.result.now in
-    let tested = c.in-err-worth.ensures v k (ap (map _) c.as-slice.ensures ∙ c.worths-levels.ensures (few x levels v c.levels.ensures) ∙ same x by_money levels k c.levels.ensures) in
-    rw (p.1, p.2) (record { outcome = inr (fails text x c.in-err-worth.field-0.0 r tested.refused); law = evidence })
+    let tested = c.in_err-worth-in-Money.ensures v k (ap (map _) c.as_slice.ensures ∙ c.worths-levels.ensures (few x levels v c.levels.ensures) ∙ same x by_money levels k c.levels.ensures) in
+    rw (p.1, p.2) (record { outcome = inr (fails text x c.in_err-worth-in-Money.field-0.0 r tested.refused); law = evidence })
 
-pub returns-in-ok-worth : goal.returns-in-ok-worth
-returns-in-ok-worth c =
+pub returns-in_ok-worth-in-Money : goal.returns-in_ok-worth-in-Money
+returns-in_ok-worth-in-Money c =
     let text = c.args.text.now in
-    let x = contents c.in-ok-read.read in
-    let r = c.in-ok-read.ensures.outcome in
+    let x = contents c.in_ok-read.read in
+    let r = c.in_ok-read.ensures.outcome in
     let v = valid_read text x r in
     let k = sym c.in-Money.ensures in
     let levels = c.levels.result.now in
-    let tested = c.in-ok-worth.ensures v k (ap (map _) c.as-slice.ensures ∙ c.worths-levels.ensures (few x levels v c.levels.ensures) ∙ same x by_money levels k c.levels.ensures) in
+    let tested = c.in_ok-worth-in-Money.ensures v k (ap (map _) c.as_slice.ensures ∙ c.worths-levels.ensures (few x levels v c.levels.ensures) ∙ same x by_money levels k c.levels.ensures) in
     record { outcome = passed {o = money} text x by_money k Money (λ n. refl) _ _ r tested.outcome; law = evidence }
 
-pub returns-in-err-worth-2 : goal.returns-in-err-worth-2
-returns-in-err-worth-2 c =
-    let p = err_from_is_err_and c.from-residual-in-err-worth-2.result c.from-residual-in-err-worth-2.ensures.1 in
+pub returns-in_err-worth-in-MoneyThenWeeks : goal.returns-in_err-worth-in-MoneyThenWeeks
+returns-in_err-worth-in-MoneyThenWeeks c =
+    let p = err_from_is_err_and c.from_residual-in_err-worth-in-MoneyThenWeeks.result c.from_residual-in_err-worth-in-MoneyThenWeeks.ensures.1 in
     let text = c.args.text.now in
-    let x = contents c.in-ok-read.read in
-    let r = c.in-ok-read.ensures.outcome in
+    let x = contents c.in_ok-read.read in
+    let r = c.in_ok-read.ensures.outcome in
     let v = valid_read text x r in
     let k = sym c.in-MoneyThenWeeks.ensures in
     let levels = c.levels-in-MoneyThenWeeks.result.now in
-    let tested = c.in-err-worth-2.ensures v k (ap (map _) c.as-slice-in-MoneyThenWeeks.ensures ∙ c.worths-levels-in-MoneyThenWeeks.ensures (few x levels v c.levels-in-MoneyThenWeeks.ensures) ∙ same x by_money_then_weeks levels k c.levels-in-MoneyThenWeeks.ensures) in
-    rw (p.1, p.2) (record { outcome = inr (fails text x c.in-err-worth-2.field-0.0 r tested.refused); law = evidence })
+    let tested = c.in_err-worth-in-MoneyThenWeeks.ensures v k (ap (map _) c.as_slice-in-MoneyThenWeeks.ensures ∙ c.worths-levels-in-MoneyThenWeeks.ensures (few x levels v c.levels-in-MoneyThenWeeks.ensures) ∙ same x by_money_then_weeks levels k c.levels-in-MoneyThenWeeks.ensures) in
+    rw (p.1, p.2) (record { outcome = inr (fails text x c.in_err-worth-in-MoneyThenWeeks.field-0.0 r tested.refused); law = evidence })
 
-pub returns-in-ok-worth-2 : goal.returns-in-ok-worth-2
-returns-in-ok-worth-2 c =
+pub returns-in_ok-worth-in-MoneyThenWeeks : goal.returns-in_ok-worth-in-MoneyThenWeeks
+returns-in_ok-worth-in-MoneyThenWeeks c =
     let text = c.args.text.now in
-    let x = contents c.in-ok-read.read in
-    let r = c.in-ok-read.ensures.outcome in
+    let x = contents c.in_ok-read.read in
+    let r = c.in_ok-read.ensures.outcome in
     let v = valid_read text x r in
     let k = sym c.in-MoneyThenWeeks.ensures in
     let levels = c.levels-in-MoneyThenWeeks.result.now in
-    let tested = c.in-ok-worth-2.ensures v k (ap (map _) c.as-slice-in-MoneyThenWeeks.ensures ∙ c.worths-levels-in-MoneyThenWeeks.ensures (few x levels v c.levels-in-MoneyThenWeeks.ensures) ∙ same x by_money_then_weeks levels k c.levels-in-MoneyThenWeeks.ensures) in
+    let tested = c.in_ok-worth-in-MoneyThenWeeks.ensures v k (ap (map _) c.as_slice-in-MoneyThenWeeks.ensures ∙ c.worths-levels-in-MoneyThenWeeks.ensures (few x levels v c.levels-in-MoneyThenWeeks.ensures) ∙ same x by_money_then_weeks levels k c.levels-in-MoneyThenWeeks.ensures) in
     record { outcome = passed {o = pile money weeks} text x by_money_then_weeks k MoneyThenWeeks (λ n. refl) _ _ r tested.outcome; law = evidence }

@@ -21,8 +21,8 @@ loop-l-preserved g c le =
     let worth = g.W.Levelled.worth in
     let before = c.loop-l.invariant le in
     let few : length (entries c.loop-l.worths) < 272 = omega (arith, ap length before, length-map (take k ls) worth, length-take-le k ls (omega arith)) in
-    grew 272 (entries c.loop-l.worths) (entries c.push.new.self) (c.from-level.result ∷ []) c.push.result c.push.ensures (omega arith)
-    ∙ (λ i. before i ++ c.from-level.ensures i ∷ [])
+    grew 272 (entries c.loop-l.worths) (entries c.push.new.self) (c.from_level.result ∷ []) c.push.result c.push.ensures (omega arith)
+    ∙ (λ i. before i ++ c.from_level.ensures i ∷ [])
     ∙ sym (map_more worth ls k _ (omega arith))
 
 pub returns : goal.returns

@@ -8,11 +8,11 @@ use Rattle.record.proofs.file.write_record.Goals as goal
 
 pub returns : goal.returns
 returns g c =
-    let items = c.item-names.ensures ∙ ap (λ b. b.items) c.terms-terms.ensures in
-    let members = c.member-names.ensures ∙ ap (λ b. b.members) c.terms-terms.ensures in
+    let items = c.item_names.ensures ∙ ap (λ b. b.items) c.terms-terms.ensures in
+    let members = c.member_names.ensures ∙ ap (λ b. b.members) c.terms-terms.ensures in
     let holdings = c.held.ensures ∙ ap (λ b. b.holdings) c.terms-terms.ensures in
-    adds_then (adds_same (ap kind_section c.kind.ensures) c.write-kind.ensures)
-    (adds_then (adds_same (names_section Items _ _ items) c.write-names.ensures)
-    (adds_then (adds_same (names_section Members _ _ members) c.write-names-2.ensures)
-    (adds_then (adds_same (ap (section Holdings holding) holdings) c.write-holdings.ensures)
-    (adds_then c.write-offers.ensures c.write-levels.ensures))))
+    adds_then (adds_same (ap kind_section c.kind.ensures) c.write_kind.ensures)
+    (adds_then (adds_same (names_section Items _ _ items) c.write_names.ensures)
+    (adds_then (adds_same (names_section Members _ _ members) c.write_names-2.ensures)
+    (adds_then (adds_same (ap (section Holdings holding) holdings) c.write_holdings.ensures)
+    (adds_then c.write_offers.ensures c.write_levels.ensures))))

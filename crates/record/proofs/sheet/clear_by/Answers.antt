@@ -9,10 +9,10 @@ use Rattle.record.proofs.Sheeting.{filed_best}
 use Rattle.record.proofs.Unique.{book_sound}
 use Rattle.record.proofs.sheet.clear_by.Goals as goal
 
-pub returns-in-err-clear : goal.returns-in-err-clear
-returns-in-err-clear g c enough =
+pub returns-in_err-clear : goal.returns-in_err-clear
+returns-in_err-clear g c enough =
     let closes = c.close-closed.ensures.outcome in
-    let short = c.in-err-clear.ensures.outcome.short in
+    let short = c.in_err-clear.ensures.outcome.short in
     absurd (omega (arith, short, ap (λ n. n.nodes) closes.net, few_nodes c.args.round))
 
 pub returns : goal.returns
@@ -20,10 +20,10 @@ returns g c enough =
     let k = g.W.Levelled.sort in
     let o = g.W.Worth.ops in
     let closes = c.close-closed.ensures.outcome in
-    let cleared = c.in-ok-clear.ensures in
+    let cleared = c.in_ok-clear.ensures in
     let after = c.clear.new.self in
     let same : closed_book after ≡ book c.args.round = cleared.kept ∙ closes.book in
     let net : closed_net c.close-closed.result ≡ net_of (closed_book after) = closes.net ∙ ap net_of (sym same) in
-    let sum = c.in-ok-clear.field-0 in
+    let sum = c.in_ok-clear.field-0 in
     let climbed : Clearing o (net_of (closed_book after)) (closed_net after) c.args.work.now c.clear.new.work (Ok sum) = subst (λ n. Clearing o n (closed_net after) c.args.work.now c.clear.new.work (Ok sum)) net cleared.outcome in
     subst (λ b. ClearedRound k b c.args.page.now c.file.new.page c.file.result) same (filed_best g.met.W.Worth.lawful g.met.W.Levelled.told (closed_book after) (closed_net after) _ _ sum (book_sound (closed_book after) after.round.sound) climbed c.args.page.now c.file.new.page c.file.result c.file.ensures.outcome)

@@ -7,39 +7,39 @@ use Rattle.record.specs.Sheets.{FiledBest, PageShort}
 use Rattle.record.proofs.Passing.{evidence}
 use Rattle.record.proofs.sheet.clear_sheet.Goals as goal
 
-pub returns-in-err-read : goal.returns-in-err-read
-returns-in-err-read c =
-    let p = err_from_is_err_and c.from-residual.result c.from-residual.ensures.1 in
-    rw (p.1, p.2) (record { outcome = (refl, inl c.in-err-read.ensures.outcome); law = evidence })
+pub returns-in_err-read : goal.returns-in_err-read
+returns-in_err-read c =
+    let p = err_from_is_err_and c.from_residual.result c.from_residual.ensures.1 in
+    rw (p.1, p.2) (record { outcome = (refl, inl c.in_err-read.ensures.outcome); law = evidence })
 
-pub returns-then-not-is-sheet : goal.returns-then-not-is-sheet
-returns-then-not-is-sheet c =
-    record { outcome = (refl, inr (inl (record { contents = contents c.in-ok-read.read; reads = c.in-ok-read.ensures.outcome; not = not_from_Decides _ c.is-sheet.ensures c.if-not-is-sheet.true; number = refl; line = refl }))); law = evidence }
+pub returns-then-not-is_sheet : goal.returns-then-not-is_sheet
+returns-then-not-is_sheet c =
+    record { outcome = (refl, inr (inl (record { contents = contents c.in_ok-read.read; reads = c.in_ok-read.ensures.outcome; not = not_from_Decides _ c.is_sheet.ensures c.if-not-is_sheet.true; number = refl; line = refl }))); law = evidence }
 
-pub returns-in-err-clear-by : goal.returns-in-err-clear-by
-returns-in-err-clear-by c =
-    let p = err_from_is_err_and c.from-residual-in-err-clear-by.result c.from-residual-in-err-clear-by.ensures.1 in
-    let x = contents c.in-ok-read.read in
-    let done = c.in-err-clear-by.ensures (omega arith) in
-    let short = subst₂ (λ k b. PageShort k b c.args.page.now (number c.in-err-clear-by.field-0.0)) c.in-Money.ensures c.into-round-round.ensures done.1 in
-    rw (p.1, p.2) (record { outcome = (done.0, inr (inr (record { sheet = x; reads = c.in-ok-read.ensures.outcome; is = c.is-sheet.ensures.0 c.if-not-is-sheet.false; short = short; line = refl }))); law = evidence })
+pub returns-in_err-clear_by-in-Money : goal.returns-in_err-clear_by-in-Money
+returns-in_err-clear_by-in-Money c =
+    let p = err_from_is_err_and c.from_residual-in_err-clear_by-in-Money.result c.from_residual-in_err-clear_by-in-Money.ensures.1 in
+    let x = contents c.in_ok-read.read in
+    let done = c.in_err-clear_by-in-Money.ensures (omega arith) in
+    let short = subst₂ (λ k b. PageShort k b c.args.page.now (number c.in_err-clear_by-in-Money.field-0.0)) c.in-Money.ensures c.into_round-round.ensures done.1 in
+    rw (p.1, p.2) (record { outcome = (done.0, inr (inr (record { sheet = x; reads = c.in_ok-read.ensures.outcome; is = c.is_sheet.ensures.0 c.if-not-is_sheet.false; short = short; line = refl }))); law = evidence })
 
-pub returns-in-err-clear-by-2 : goal.returns-in-err-clear-by-2
-returns-in-err-clear-by-2 c =
-    let p = err_from_is_err_and c.from-residual-in-err-clear-by-2.result c.from-residual-in-err-clear-by-2.ensures.1 in
-    let x = contents c.in-ok-read.read in
-    let done = c.in-err-clear-by-2.ensures (omega arith) in
-    let short = subst₂ (λ k b. PageShort k b c.args.page.now (number c.in-err-clear-by-2.field-0.0)) c.in-MoneyThenWeeks.ensures c.into-round-round.ensures done.1 in
-    rw (p.1, p.2) (record { outcome = (done.0, inr (inr (record { sheet = x; reads = c.in-ok-read.ensures.outcome; is = c.is-sheet.ensures.0 c.if-not-is-sheet.false; short = short; line = refl }))); law = evidence })
+pub returns-in_err-clear_by-in-MoneyThenWeeks : goal.returns-in_err-clear_by-in-MoneyThenWeeks
+returns-in_err-clear_by-in-MoneyThenWeeks c =
+    let p = err_from_is_err_and c.from_residual-in_err-clear_by-in-MoneyThenWeeks.result c.from_residual-in_err-clear_by-in-MoneyThenWeeks.ensures.1 in
+    let x = contents c.in_ok-read.read in
+    let done = c.in_err-clear_by-in-MoneyThenWeeks.ensures (omega arith) in
+    let short = subst₂ (λ k b. PageShort k b c.args.page.now (number c.in_err-clear_by-in-MoneyThenWeeks.field-0.0)) c.in-MoneyThenWeeks.ensures c.into_round-round.ensures done.1 in
+    rw (p.1, p.2) (record { outcome = (done.0, inr (inr (record { sheet = x; reads = c.in_ok-read.ensures.outcome; is = c.is_sheet.ensures.0 c.if-not-is_sheet.false; short = short; line = refl }))); law = evidence })
 
-pub returns-in-ok-clear-by : goal.returns-in-ok-clear-by
-returns-in-ok-clear-by c =
-    let done = c.in-ok-clear-by.ensures (omega arith) in
-    let filed = subst₂ (λ k b. FiledBest k b c.args.page.now c.clear-by.new.page c.in-ok-clear-by.field-0) c.in-Money.ensures c.into-round-round.ensures done in
-    record { outcome = record { sheet = contents c.in-ok-read.read; reads = c.in-ok-read.ensures.outcome; is = c.is-sheet.ensures.0 c.if-not-is-sheet.false; filed = filed }; law = evidence }
+pub returns-in_ok-clear_by-in-Money : goal.returns-in_ok-clear_by-in-Money
+returns-in_ok-clear_by-in-Money c =
+    let done = c.in_ok-clear_by-in-Money.ensures (omega arith) in
+    let filed = subst₂ (λ k b. FiledBest k b c.args.page.now c.clear_by.new.page c.in_ok-clear_by-in-Money.field-0) c.in-Money.ensures c.into_round-round.ensures done in
+    record { outcome = record { sheet = contents c.in_ok-read.read; reads = c.in_ok-read.ensures.outcome; is = c.is_sheet.ensures.0 c.if-not-is_sheet.false; filed = filed }; law = evidence }
 
-pub returns-in-ok-clear-by-2 : goal.returns-in-ok-clear-by-2
-returns-in-ok-clear-by-2 c =
-    let done = c.in-ok-clear-by-2.ensures (omega arith) in
-    let filed = subst₂ (λ k b. FiledBest k b c.args.page.now c.clear-by-in-MoneyThenWeeks.new.page c.in-ok-clear-by-2.field-0) c.in-MoneyThenWeeks.ensures c.into-round-round.ensures done in
-    record { outcome = record { sheet = contents c.in-ok-read.read; reads = c.in-ok-read.ensures.outcome; is = c.is-sheet.ensures.0 c.if-not-is-sheet.false; filed = filed }; law = evidence }
+pub returns-in_ok-clear_by-in-MoneyThenWeeks : goal.returns-in_ok-clear_by-in-MoneyThenWeeks
+returns-in_ok-clear_by-in-MoneyThenWeeks c =
+    let done = c.in_ok-clear_by-in-MoneyThenWeeks.ensures (omega arith) in
+    let filed = subst₂ (λ k b. FiledBest k b c.args.page.now c.clear_by-in-MoneyThenWeeks.new.page c.in_ok-clear_by-in-MoneyThenWeeks.field-0) c.in-MoneyThenWeeks.ensures c.into_round-round.ensures done in
+    record { outcome = record { sheet = contents c.in_ok-read.read; reads = c.in_ok-read.ensures.outcome; is = c.is_sheet.ensures.0 c.if-not-is_sheet.false; filed = filed }; law = evidence }

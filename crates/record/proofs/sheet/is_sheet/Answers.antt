@@ -8,16 +8,16 @@ use Rattle.reading.specs.Levels.{numbers}
 use Rattle.record.proofs.Sheeting.{row_zero, lines_unfilled, limits_to, limits_from}
 use Rattle.record.proofs.sheet.is_sheet.Goals as goal
 
-pub returns-then-not-is-empty : goal.returns-then-not-is-empty
-returns-then-not-is-empty c =
+pub returns-then-not-is_empty : goal.returns-then-not-is_empty
+returns-then-not-is_empty c =
     let x = contents c.args.read.now in
     let ls = c.levels.result.now in
     let many : length ls ≡ length x.levels = sym (length-map ls (numbers x.kind)) ∙ ap length c.levels.ensures in
-    (λ e. absurd (both_ways false refl e), λ sheet. absurd (both_ways _ (sym c.if-not-is-empty.ensures) (eq-eqb (length ls) 0 (many ∙ sheet.unlevelled))))
+    (λ e. absurd (both_ways false refl e), λ sheet. absurd (both_ways _ (sym c.if-not-is_empty.ensures) (eq-eqb (length ls) 0 (many ∙ sheet.unlevelled))))
 
-pub returns-then-not-are-zero : goal.returns-then-not-are-zero
-returns-then-not-are-zero c =
-    (λ e. absurd (both_ways false refl e), λ sheet. absurd (not_from_Decides _ c.are-zero.ensures c.if-not-are-zero.true (subst (All (λ u. u ≡ 0)) (sym c.units.ensures) (row_zero (contents c.args.read.now).offers sheet.unfilled))))
+pub returns-then-not-are_zero : goal.returns-then-not-are_zero
+returns-then-not-are_zero c =
+    (λ e. absurd (both_ways false refl e), λ sheet. absurd (not_from_Decides _ c.are_zero.ensures c.if-not-are_zero.true (subst (All (λ u. u ≡ 0)) (sym c.units.ensures) (row_zero (contents c.args.read.now).offers sheet.unfilled))))
 
 pub returns : goal.returns
 returns c =
@@ -26,9 +26,9 @@ returns c =
     let many : length ls ≡ length x.levels = sym (length-map ls (numbers x.kind)) ∙ ap length c.levels.ensures in
     let offers = ap (λ b. b.offers) c.terms.ensures in (
       λ t. record {
-        unlevelled = sym many ∙ eqb-true (length ls) 0 (sym c.if-not-is-empty.ensures);
-        unfilled = lines_unfilled x.offers (subst (All (λ u. u ≡ 0)) c.units.ensures (c.are-zero.ensures.0 c.if-not-are-zero.false));
-        standing = limits_from x.offers (subst (All (λ o. 0 < o.limit)) offers (c.are-standing.ensures.0 t));
+        unlevelled = sym many ∙ eqb-true (length ls) 0 (sym c.if-not-is_empty.ensures);
+        unfilled = lines_unfilled x.offers (subst (All (λ u. u ≡ 0)) c.units.ensures (c.are_zero.ensures.0 c.if-not-are_zero.false));
+        standing = limits_from x.offers (subst (All (λ o. 0 < o.limit)) offers (c.are_standing.ensures.0 t));
       },
-      λ sheet. c.are-standing.ensures.1 (subst (All (λ o. 0 < o.limit)) (sym offers) (limits_to x.offers sheet.standing)),
+      λ sheet. c.are_standing.ensures.1 (subst (All (λ o. 0 < o.limit)) (sym offers) (limits_to x.offers sheet.standing)),
     )

@@ -7,7 +7,7 @@ use Rattle.book.specs.Books.{line_count}
 use Rattle.layout.specs.Layout.{head, nothing}
 use Rattle.layout.specs.Runs.{ComesTo, reads}
 use Rattle.round.specs.Rounds.{book}
-use Rattle.reading.specs.Kinds.{kind_as, of_kind}
+use Rattle.reading.specs.Kinds.{kind as kind_as, of_kind}
 use Rattle.reading.specs.Levels.{numbers, with_levels}
 use Rattle.reading.specs.Reading.{after_kind}
 use Rattle.reading.proofs.Helds.{units_counted}

@@ -2,4 +2,4 @@ use Rattle.record.proofs.Adding.{adds_line}
 use Rattle.record.proofs.file.lines.write_row.Goals as goal
 
 pub returns : goal.returns
-returns g c = adds_line c.row.new.self c.row.ensures c.end-line.ensures
+returns g c = adds_line c.row.new.self c.row.ensures c.end_line.ensures

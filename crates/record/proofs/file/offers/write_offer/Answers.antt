@@ -23,5 +23,5 @@ returns g c =
     let is = shown.1 ∙ ap (λ b. get_or b.offers k no_offer) c.terms.ensures in
     let member = c.from.ensures in
     let limit = c.from-2.ensures in
-    subst (λ o. Adds c.args.buffer.now c.write-side-2.new.buffer (offers_lines (fill_offer o u ∷ []))) is
-    (adds_offer (seen found) u (λ i. row_spelt unsigned (member i ∷ limit i ∷ length found.give.now ∷ length found.get.now ∷ [])) c.write-row.ensures c.write-side.ensures c.write-side-2.ensures)
+    subst (λ o. Adds c.args.buffer.now c.write_side-2.new.buffer (offers_lines (fill_offer o u ∷ []))) is
+    (adds_offer (seen found) u (λ i. row_spelt unsigned (member i ∷ limit i ∷ length found.give.now ∷ length found.get.now ∷ [])) c.write_row.ensures c.write_side.ensures c.write_side-2.ensures)

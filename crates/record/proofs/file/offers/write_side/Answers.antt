@@ -8,8 +8,8 @@ use Rattle.record.proofs.Adding.{adds_none}
 use Rattle.record.proofs.Offered.{few_lines, units_known, adds_side_line, adds_side}
 use Rattle.record.proofs.file.offers.write_side.Goals as goal
 
-pub overflow-cast-i : goal.overflow-cast-i
-overflow-cast-i g c = omega (arith, ap length c.requires.1, few_lines c.args.round.now c.args.side c.args.offer c.requires.0)
+pub overflow_cast-i : goal.overflow_cast-i
+overflow_cast-i g c = omega (arith, ap length c.requires.1, few_lines c.args.round.now c.args.side c.args.offer c.requires.0)
 
 pub loop-i-init : goal.loop-i-init
 loop-i-init g c = adds_none _
@@ -33,7 +33,7 @@ loop-i-preserved g c =
     let limit = c.from-in-loop-i.ensures in
     let price = c.from-in-loop-i-2.ensures in
     let units = c.from-in-loop-i-3.ensures ∙ same ∙ known.2 in
-    adds_side_line c.args.lines.now (units_on side (closed_allotment round k)) i no_line c.loop-i-test.true (λ j. row_spelt unsigned (item j ∷ limit j ∷ price j ∷ units j ∷ [])) c.loop-i.invariant c.write-row.ensures
+    adds_side_line c.args.lines.now (units_on side (closed_allotment round k)) i no_line c.loop-i-test.true (λ j. row_spelt unsigned (item j ∷ limit j ∷ price j ∷ units j ∷ [])) c.loop-i.invariant c.write_row.ensures
 
 pub returns : goal.returns
 returns g c = adds_side c.args.lines.now (units_on c.args.side (closed_allotment c.args.round.now c.args.offer)) c.loop-i.i c.loop-i-test.false c.loop-i.invariant

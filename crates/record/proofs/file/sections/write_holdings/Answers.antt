@@ -14,7 +14,7 @@ loop-h-preserved c =
     let member = c.from.ensures in
     let item = c.from-in-loop-h.ensures in
     let units = c.from-in-loop-h-2.ensures in
-    adds_more (spell holding) c.args.holdings.now c.loop-h.h-index no_holding c.loop-h-test.true (λ i. row_spelt unsigned (member i ∷ item i ∷ units i ∷ [])) c.loop-h.invariant c.write-row.ensures
+    adds_more (spell holding) c.args.holdings.now c.loop-h.h-index no_holding c.loop-h-test.true (λ i. row_spelt unsigned (member i ∷ item i ∷ units i ∷ [])) c.loop-h.invariant c.write_row.ensures
 
 pub returns : goal.returns
-returns c = adds_then c.write-head.ensures (adds_all (spell holding) c.args.holdings.now c.loop-h.h-index c.loop-h-test.false c.loop-h.invariant)
+returns c = adds_then c.write_head.ensures (adds_all (spell holding) c.args.holdings.now c.loop-h.h-index c.loop-h-test.false c.loop-h.invariant)

@@ -1,13 +1,13 @@
 use Rattle.std.proofs.Common.{sym, ap}
 use Rattle.layout.specs.Render.{kind_section}
-use Rattle.reading.specs.Kinds.{kind_as}
+use Rattle.reading.specs.Kinds.{kind as kind_as}
 use Rattle.record.proofs.Adding.{adds_same, adds_then}
 use Rattle.record.proofs.file.sections.write_kind.Goals as goal
 
 pub returns-in-Money : goal.returns-in-Money
-returns-in-Money c = adds_same (ap (λ k. kind_section (kind_as k)) (sym c.in-Money.is)) (adds_then c.write-head.ensures c.write-line.ensures)
+returns-in-Money c = adds_same (ap (λ k. kind_section (kind_as k)) (sym c.in-Money.is)) (adds_then c.write_head.ensures c.write_line.ensures)
 
 pub returns-in-MoneyThenWeeks : goal.returns-in-MoneyThenWeeks
 returns-in-MoneyThenWeeks c =
-    let lines = adds_then c.write-line-in-MoneyThenWeeks.ensures c.write-line-in-MoneyThenWeeks-2.ensures in
-    adds_same (ap (λ k. kind_section (kind_as k)) (sym c.in-MoneyThenWeeks.is)) (adds_then c.write-head-in-MoneyThenWeeks.ensures lines)
+    let lines = adds_then c.write_line-in-MoneyThenWeeks.ensures c.write_line-in-MoneyThenWeeks-2.ensures in
+    adds_same (ap (λ k. kind_section (kind_as k)) (sym c.in-MoneyThenWeeks.is)) (adds_then c.write_head-in-MoneyThenWeeks.ensures lines)

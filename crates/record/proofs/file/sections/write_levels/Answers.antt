@@ -13,8 +13,8 @@ loop-w-init g c = adds_none _
 pub loop-w-preserved : goal.loop-w-preserved
 loop-w-preserved g c =
     let kind = c.kind.ensures in
-    let worth = c.to-level.ensures ∙ ap g.W.Levelled.level c.w-item.is in
-    adds_more (λ w. spell level (numbers g.W.Levelled.sort (g.W.Levelled.level w))) c.args.levels.now c.loop-w.w-index c.w-item.result c.loop-w-test.true (λ i. spell level (numbers (kind i) (worth i))) c.loop-w.invariant c.write-level.ensures
+    let worth = c.to_level.ensures ∙ ap g.W.Levelled.level c.w-item.is in
+    adds_more (λ w. spell level (numbers g.W.Levelled.sort (g.W.Levelled.level w))) c.args.levels.now c.loop-w.w-index c.w-item.result c.loop-w-test.true (λ i. spell level (numbers (kind i) (worth i))) c.loop-w.invariant c.write_level.ensures
 
 pub returns : goal.returns
 returns g c =
@@ -22,4 +22,4 @@ returns g c =
     let line : g.row.W.Denot → List ℤ = λ w. numbers g.W.Levelled.sort (g.W.Levelled.level w) in
     let many = sym (length-map ws line) in
     let lines = sym (map-map (spell level) line ws) in
-    adds_same (λ i. spell (head Levels) (many i) ∷ lines i) (adds_then c.write-head.ensures (adds_all (λ w. spell level (line w)) ws c.loop-w.w-index c.loop-w-test.false c.loop-w.invariant))
+    adds_same (λ i. spell (head Levels) (many i) ∷ lines i) (adds_then c.write_head.ensures (adds_all (λ w. spell level (line w)) ws c.loop-w.w-index c.loop-w-test.false c.loop-w.invariant))

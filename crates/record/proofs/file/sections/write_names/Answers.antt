@@ -7,7 +7,7 @@ pub loop-name-init : goal.loop-name-init
 loop-name-init c = adds_none _
 
 pub loop-name-preserved : goal.loop-name-preserved
-loop-name-preserved c = adds_more letters c.args.names.now c.loop-name.name-index c.name-item.result c.loop-name-test.true (c.as-slice.ensures ∙ ap letters c.name-item.is) c.loop-name.invariant c.write-line.ensures
+loop-name-preserved c = adds_more letters c.args.names.now c.loop-name.name-index c.name-item.result c.loop-name-test.true (c.as_slice.ensures ∙ ap letters c.name-item.is) c.loop-name.invariant c.write_line.ensures
 
 pub returns : goal.returns
-returns c = adds_then c.write-head.ensures (adds_all letters c.args.names.now c.loop-name.name-index c.loop-name-test.false c.loop-name.invariant)
+returns c = adds_then c.write_head.ensures (adds_all letters c.args.names.now c.loop-name.name-index c.loop-name-test.false c.loop-name.invariant)

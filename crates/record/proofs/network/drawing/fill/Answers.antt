@@ -12,15 +12,15 @@ use Rattle.record.proofs.network.drawing.fill.Goals as goal
 pub loop-i-init : goal.loop-i-init
 loop-i-init g c = (filled_none (closed_net c.args.round.now) c.requires.empty, refl)
 
-pub returns-in-err-push : goal.returns-in-err-push
-returns-in-err-push g c =
-    let p = err_from_is_err_and c.from-residual.result c.from-residual.ensures.1 in
+pub returns-in_err-push : goal.returns-in_err-push
+returns-in_err-push g c =
+    let p = err_from_is_err_and c.from_residual.result c.from_residual.ensures.1 in
     let ys = c.args.flows.now in
     let i = c.loop-i.i in
-    let own : to_z w64 (of_z w64 c.from.result) ≡ pos (get_or ys i 0) = omega (arith, ints, c.from.ensures, c.type-inv.flows i) in
-    let pushed = c.in-err-push.ensures in
+    let own : to_z w64 (of_z w64 c.from.result) ≡ pos (get_or ys i 0) = omega (arith, ints, c.from.ensures, c.type_inv.flows i) in
+    let pushed = c.in_err-push.ensures in
     rw (p.1, p.2) (record {
-      refused = refused_over (closed_net c.args.round.now) ys i c.loop-i-test.true _ own (closed_net c.loop-i.round) c.in-err-push.field-0.0 c.requires.long c.loop-i.invariant.0 pushed.outcome.refused;
+      refused = refused_over (closed_net c.args.round.now) ys i c.loop-i-test.true _ own (closed_net c.loop-i.round) c.in_err-push.field-0.0 c.requires.long c.loop-i.invariant.0 pushed.outcome.refused;
       outcome = tt;
       kept = sym (ap book pushed.kept.round) ∙ c.loop-i.invariant.1;
     })
@@ -29,8 +29,8 @@ pub loop-i-preserved : goal.loop-i-preserved
 loop-i-preserved g c =
     let ys = c.args.flows.now in
     let i = c.loop-i.i in
-    let own : to_z w64 (of_z w64 c.from.result) ≡ pos (get_or ys i 0) = omega (arith, ints, c.from.ensures, c.type-inv.flows i) in
-    let pushed = c.in-ok-push.ensures in (
+    let own : to_z w64 (of_z w64 c.from.result) ≡ pos (get_or ys i 0) = omega (arith, ints, c.from.ensures, c.type_inv.flows i) in
+    let pushed = c.in_ok-push.ensures in (
       filled_more (closed_net c.args.round.now) ys i c.loop-i-test.true _ own (closed_net c.loop-i.round) (closed_net c.push.new.self) c.loop-i.invariant.0 pushed.outcome.outcome,
       sym (ap book pushed.kept.round) ∙ c.loop-i.invariant.1,
     )

@@ -1,12 +1,12 @@
 -- Offers with the units of their lines in one row.
-use Rattle.std.proofs.Common.{◌≡◌, ℕ, zero, suc, ◌+◌, ◌<◌, ◌≤◌, List, [], ◌∷◌, ◌++◌, map, length, get_or, drop, sym, refl, ap, ◌∙◌, subst, arith}
+use Rattle.std.proofs.Common.{◌≡◌, ℕ, suc, ◌+◌, ◌<◌, ◌≤◌, List, [], ◌∷◌, ◌++◌, map, length, get_or, drop, sym, refl, ap, ◌∙◌, arith}
 use Rattle.std.proofs.lemmas.List.{length-map, length-append, length-drop, drop_at, drop_more, get_or_append_left, get_or-append-add, append_assoc, nil_from_length}
 use Rattle.book.specs.Books.{Book, Offer, line_count}
 use Rattle.book.specs.Rows.{map_with}
 use Rattle.book.specs.declared.line.Line.{Line}
-use Rattle.layout.specs.Records.{LineWithUnits, OfferWithUnits, Contents, line_of, units_of, offer_of, book_of, fill_line, fill_offer}
+use Rattle.layout.specs.Records.{LineWithUnits, OfferWithUnits, line_of, units_of, offer_of, book_of, fill_line}
 use Rattle.layout.proofs.Recorded.{lines_same}
-use Rattle.reading.specs.Held.{units_in, filled_offer, filled_offers, held}
+use Rattle.reading.specs.Held.{units_in, filled_offers, held}
 use Rattle.reading.specs.declared.kind.Kind.{Kind}
 use Rattle.reading.specs.declared.level.Level.{Level}
 

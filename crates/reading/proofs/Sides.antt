@@ -1,5 +1,5 @@
 -- The lines of an offer's sides, one after the other.
-use Rattle.std.proofs.Common.{◌≡◌, ℕ, suc, ◌+◌, ◌≤◌, List, [], ◌∷◌, ◌++◌, map, length, replicate, IfOk, Ok, Err, Option, Result, sym, refl, ap, ◌∙◌, subst, inl, inr, append_assoc, append-nil, arith}
+use Rattle.std.proofs.Common.{◌≡◌, ℕ, suc, ◌+◌, ◌≤◌, List, [], ◌∷◌, ◌++◌, map, length, replicate, IfOk, Ok, Err, Option, Result, sym, ap, ◌∙◌, subst, inl, inr, append_assoc, append-nil, arith}
 use Rattle.std.specs.List.{ContainsAt as Has, AllByRecursion as All}
 use Rattle.std.proofs.ByRecursion.{All-push}
 use Rattle.std.proofs.lemmas.List.{length-map, length-append, length_push, map_push}
@@ -15,8 +15,8 @@ use Rattle.text.specs.declared.fault.Fault.{Fault}
 use Rattle.text.specs.declared.reader.Reader.{Reader}
 use Rattle.book.specs.Books.{Distinct, Loop, Fair, item_of}
 use Rattle.book.specs.declared.line.Line.{Line}
-use Rattle.layout.specs.Layout.{Slot, give, get, HeadOfOffer, last, line_rules, rules, giving, getting, with_offers}
-use Rattle.layout.specs.Records.{LineWithUnits, OfferWithUnits, Contents, line_of, units_of}
+use Rattle.layout.specs.Layout.{Slot, give, get, HeadOfOffer, line_rules, rules, giving, getting, with_offers}
+use Rattle.layout.specs.Records.{LineWithUnits, Contents, line_of, units_of}
 use Rattle.layout.proofs.Kept.{last_push, on_last_push}
 use Rattle.layout.proofs.Lists.{none_apart, apart_push, loop_push}
 use Rattle.reading.specs.Offers.{line_said, as_line, FairBelow, Part, give_lines, get_lines, slot, offer_with, with_part, Within, LineAdded, LinesRead, LinesStop}

@@ -1,4 +1,6 @@
 // Reading the text of a record.
+#![tactic(auto)]
+
 mod bounds;
 mod heads;
 mod holdings;

@@ -18,7 +18,7 @@ use Rattle.flow.specs.Groups.{kind}
 use Rattle.network.specs.Circulations.{Circulates}
 use Rattle.network.specs.Networks.{Net, flow_in, graph, value}
 use Rattle.network.proofs.Circulations.{circulation, circulates}
-use Rattle.book.specs.Allotments.{Units, Allotment, Allowed, Alike, AlikeOn, payoff, price_of}
+use Rattle.book.specs.Allotments.{Units, Allotment, Allowed, Alike, AlikeOn}
 use Rattle.book.specs.Arcs.{net_of, filling, filled}
 use Rattle.book.specs.Books.{Book, Offer, Sound, no_offer}
 use Rattle.book.specs.Rows.{map_with}

@@ -1,5 +1,5 @@
 -- Kinds of worth whose worths stand in records as levels.
-use Rattle.std.specs.Prelude.{◌≡◌, ◌↔◌, List, map, ℤ}
+use Rattle.std.specs.Prelude.{◌≡◌, ◌↔◌, List, map}
 use Rattle.worth.specs.Kinds.{Ops}
 use Rattle.network.specs.Networks.{Net}
 use Rattle.network.specs.Potentials.{Fitted}

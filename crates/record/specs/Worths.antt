@@ -1,6 +1,6 @@
 -- Worths come back from the numbers of their levels.
-use Rattle.std.specs.Prelude.{◌≡◌, List, [], ◌∷◌, map, ℤ, pos, refl}
-use Rattle.std.proofs.Common.{sym, ap, subst}
+use Rattle.std.specs.Prelude.{◌≡◌, List, [], ◌∷◌, map, refl}
+use Rattle.std.proofs.Common.{ap}
 use Rattle.worth.specs.declared.money.Money.{Money}
 use Rattle.worth.specs.declared.weeks.Weeks.{Weeks}
 use Rattle.worth.specs.declared.lexicographic.Lexicographic.{Lexicographic}

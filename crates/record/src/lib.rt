@@ -1,4 +1,6 @@
 // Records of rounds that carry their own evidence: filing, checking and clearing.
+#![tactic(auto)]
+
 pub mod check;
 pub mod evidence;
 pub mod file;

@@ -1,7 +1,6 @@
-use Rattle.std.proofs.Common.{◌≡◌, ℕ, length, refl, arith}
+use Rattle.std.proofs.Common.{length, arith}
 use Rattle.std.proofs.lemmas.Result.{err_from_is_err_and}
 use Rattle.layout.specs.Layout.{item, with_line}
-use Rattle.layout.specs.Records.{Contents}
 use Rattle.reading.proofs.Named.{an_item}
 use Rattle.reading.specs.Reading.{ItemsOnly}
 use Rattle.reading.proofs.Gains.{begin, again, stopped, gained, one_longer, items_itself, taken, plain}

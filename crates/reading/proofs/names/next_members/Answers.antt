@@ -1,7 +1,6 @@
-use Rattle.std.proofs.Common.{◌≡◌, ℕ, length, refl, arith}
+use Rattle.std.proofs.Common.{length, arith}
 use Rattle.std.proofs.lemmas.Result.{err_from_is_err_and}
 use Rattle.layout.specs.Layout.{member, with_line}
-use Rattle.layout.specs.Records.{Contents}
 use Rattle.reading.specs.Reading.{MembersOnly}
 use Rattle.reading.proofs.Gains.{begin, again, stopped, gained, one_longer, members_itself, taken, plain}
 use Rattle.reading.proofs.names.next_members.Goals as goal

@@ -1,4 +1,4 @@
-use Rattle.std.proofs.Common.{◌≡◌, ◌-◌, ◌∷◌, ◌++◌, replicate, codes, refl, subst, arith}
+use Rattle.std.proofs.Common.{◌-◌, ◌∷◌, ◌++◌, replicate, codes, subst, arith}
 use Rattle.std.proofs.lemmas.Result.{err_from_is_err_and}
 use Rattle.text.specs.declared.section.Section.TheVariants.{Items}
 use Rattle.round.specs.Rounds.{book}

@@ -1,4 +1,4 @@
-use Rattle.std.proofs.Common.{◌≡◌, ◌∷◌, ◌++◌, codes, refl}
+use Rattle.std.proofs.Common.{◌∷◌, ◌++◌, codes, refl}
 use Rattle.std.proofs.lemmas.Result.{err_from_is_err_and}
 use Rattle.reading.specs.Kinds.{of_kind}
 use Rattle.layout.specs.Layout.{word}

@@ -1,4 +1,4 @@
-use Rattle.std.proofs.Common.{sym, ◌∙◌}
+use Rattle.std.proofs.Common.{sym}
 use Rattle.tables.specs.Tables.{entries}
 use Rattle.round.specs.Rounds.{book}
 use Rattle.reading.proofs.Helds.{book_held}

@@ -1,4 +1,4 @@
-use Rattle.std.proofs.Common.{◌≡◌, [], ◌∷◌, map, length, sym, refl, ap, ◌∙◌, subst, arith}
+use Rattle.std.proofs.Common.{[], ◌∷◌, map, length, sym, ap, ◌∙◌, subst, arith}
 use Rattle.std.proofs.lemmas.Result.{err_from_is_err_and}
 use Rattle.tables.specs.Tables.{entries}
 use Rattle.text.specs.declared.section.Section.TheVariants.{Levels}
@@ -6,7 +6,6 @@ use Rattle.book.specs.Arcs.{nodes}
 use Rattle.book.specs.Books.{line_count}
 use Rattle.layout.specs.Layout.{head, nothing}
 use Rattle.layout.specs.Runs.{ComesTo, reads}
-use Rattle.round.specs.Rounds.{book}
 use Rattle.reading.specs.Kinds.{kind as kind_as, of_kind}
 use Rattle.reading.specs.Levels.{numbers, with_levels}
 use Rattle.reading.specs.Reading.{after_kind}

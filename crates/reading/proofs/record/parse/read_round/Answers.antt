@@ -1,4 +1,4 @@
-use Rattle.std.proofs.Common.{◌≡◌, [], ◌∷◌, length, codes, sym, refl, ap, ◌∙◌}
+use Rattle.std.proofs.Common.{◌∷◌, length, sym, refl, ap, ◌∙◌}
 use Rattle.std.proofs.lemmas.Result.{err_from_is_err_and}
 use Rattle.layout.specs.Layout.{nothing, head}
 use Rattle.reading.specs.Kinds.{of_kind}

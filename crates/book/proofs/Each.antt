@@ -1,6 +1,6 @@
 -- What holds of each entry of a list, and of each entry with what goes with it by number.
 use Rattle.std.proofs.Common.{◌≡◌, ℕ, zero, suc, ◌+◌, ◌<◌, List, [], ◌∷◌, ◌++◌, length, get_or, refl, ap₂, arith}
-use Rattle.std.specs.List.{AllByRecursion as All}
+use Rattle.std.specs.List.{AllByRecursion}
 use Rattle.std.proofs.ByRecursion.{All-append}
 use Rattle.flow.specs.declared.arc.Arc.{Arc}
 use Rattle.book.specs.Rows.{sum_with, AllWith, map_with}
@@ -10,21 +10,21 @@ use Rattle.book.specs.Arcs.{OfferFlows, give_arc, own_arc, get_arc, offer_arcs, 
 use Rattle.book.specs.declared.holding.Holding.{Holding}
 
 module _ {X : Type 0} where
-  pub all_left : (P : X → Type 0) (xs ys : List X) → All P (xs ++ ys) → All P xs
+  pub all_left : (P : X → Type 0) (xs ys : List X) → AllByRecursion P (xs ++ ys) → AllByRecursion P xs
   all_left P [] ys p = tt
   all_left P (x ∷ xs) ys p = (p.0, all_left P xs ys p.1)
 
-  pub all_right : (P : X → Type 0) (xs ys : List X) → All P (xs ++ ys) → All P ys
+  pub all_right : (P : X → Type 0) (xs ys : List X) → AllByRecursion P (xs ++ ys) → AllByRecursion P ys
   all_right P [] ys p = p
   all_right P (x ∷ xs) ys p = all_right P xs ys p.1
 
-  pub all_both : (P Q R : X → Type 0) → ((x : X) → P x → Q x → R x) → (xs : List X) → All P xs → All Q xs → All R xs
+  pub all_both : (P Q R : X → Type 0) → ((x : X) → P x → Q x → R x) → (xs : List X) → AllByRecursion P xs → AllByRecursion Q xs → AllByRecursion R xs
   all_both P Q R h [] p q = tt
   all_both P Q R h (x ∷ xs) p q = (h x p.0 q.0, all_both P Q R h xs p.1 q.1)
 
 module _ {X U : Type 0} where
   -- from what holds of the entries alone
-  pub with_from_all : (P : X → Type 0) (Q : X → U → Type 0) → ((x : X) (v : U) → P x → Q x v) → (xs : List X) (u : ℕ → U) → All P xs → AllWith Q xs u
+  pub with_from_all : (P : X → Type 0) (Q : X → U → Type 0) → ((x : X) (v : U) → P x → Q x v) → (xs : List X) (u : ℕ → U) → AllByRecursion P xs → AllWith Q xs u
   with_from_all P Q h [] u e = tt
   with_from_all P Q h (x ∷ xs) u e = (h x (u 0) e.0, with_from_all P Q h xs (λ k. u (suc k)) e.1)
 
@@ -47,11 +47,11 @@ module _ {X U : Type 0} where
   with_from_at P (x ∷ xs) u h = (h 0 x (omega arith), with_from_at P xs (λ i. u (suc i)) (λ k d l. h (suc k) d (omega arith)))
 
 module _ {X U Y : Type 0} (P : Y → Type 0) (f : X → U → Y) where
-  pub all_map_with : (xs : List X) (u : ℕ → U) → AllWith (λ x v. P (f x v)) xs u → All P (map_with f xs u)
+  pub all_map_with : (xs : List X) (u : ℕ → U) → AllWith (λ x v. P (f x v)) xs u → AllByRecursion P (map_with f xs u)
   all_map_with [] u e = tt
   all_map_with (x ∷ xs) u e = (e.0, all_map_with xs (λ k. u (suc k)) e.1)
 
-  pub with_map_with : (xs : List X) (u : ℕ → U) → All P (map_with f xs u) → AllWith (λ x v. P (f x v)) xs u
+  pub with_map_with : (xs : List X) (u : ℕ → U) → AllByRecursion P (map_with f xs u) → AllWith (λ x v. P (f x v)) xs u
   with_map_with [] u e = tt
   with_map_with (x ∷ xs) u e = (e.0, with_map_with xs (λ k. u (suc k)) e.1)
 
@@ -60,10 +60,10 @@ module _ (P : Arc → Type 0) (n : ℕ) (hs : List Holding) where
   abbrev pub Parts : ℕ → Offer → OfferFlows → Type 0
   Parts p o g = AllWith (λ l y. P (give_arc n hs o.member p l y)) o.give g.give × P (own_arc p o.limit g.own) × AllWith (λ l y. P (get_arc (p + 1) l y)) o.get g.get
 
-  pub all_offer : (p : ℕ) (o : Offer) (g : OfferFlows) → Parts p o g → All P (offer_arcs n hs p o g)
+  pub all_offer : (p : ℕ) (o : Offer) (g : OfferFlows) → Parts p o g → AllByRecursion P (offer_arcs n hs p o g)
   all_offer p o g e = All-append P (map_with (give_arc n hs o.member p) o.give g.give) (own_arc p o.limit g.own ∷ map_with (get_arc (p + 1)) o.get g.get) (all_map_with P (give_arc n hs o.member p) o.give g.give e.0) (e.1, all_map_with P (get_arc (p + 1)) o.get g.get e.2)
 
-  pub parts_offer : (p : ℕ) (o : Offer) (g : OfferFlows) → All P (offer_arcs n hs p o g) → Parts p o g
+  pub parts_offer : (p : ℕ) (o : Offer) (g : OfferFlows) → AllByRecursion P (offer_arcs n hs p o g) → Parts p o g
   parts_offer p o g e =
       let gives : List Arc = map_with (give_arc n hs o.member p) o.give g.give in
       let gets : List Arc = own_arc p o.limit g.own ∷ map_with (get_arc (p + 1)) o.get g.get in

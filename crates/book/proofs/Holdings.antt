@@ -1,7 +1,7 @@
 -- Whose holding is which, where no pair of member and item has two.
 use Rattle.std.proofs.Common.{◌≡◌, ℕ, zero, suc, ◌+◌, ◌<◌, Bool, true, false, cond, ◌&&◌, ◌||◌, eqb, List, [], ◌∷◌, map, length, get_or, Some, None, Option, sym, refl, ap, ◌∙◌, subst, ap₂, subst₂, ⊎_elim, one-add, arith}
 use Rattle.std.specs.Option.{option_map}
-use Rattle.std.specs.List.{AllByRecursion as All}
+use Rattle.std.specs.List.{AllByRecursion}
 use Rattle.std.proofs.lemmas.Bool.{eq-eqb, ne_eqb, eqb-true, cases_eq, cases_Bool, cond_both, and_parts, and_from, or_parts, or_cases, both_ways}
 use Rattle.book.specs.Books.{is_of, spot_of, held_by, no_holding, Distinct, pair}
 use Rattle.book.specs.Arcs.{source, give_capacity}
@@ -70,14 +70,14 @@ held_none [] m j e = refl
 held_none (h ∷ hs) m j e = let p = or_parts (is_of h m j) (has hs m j) e in held_step h hs m j ∙ ap (λ t. cond t (Some h.units) (held_by hs m j)) p.0 ∙ held_none hs m j p.1
 
 -- each holding is the one found for its pair
-pub found_own : (hs : List Holding) → Apart hs → All (λ h. held_by hs h.member h.item ≡ Some h.units) hs
+pub found_own : (hs : List Holding) → Apart hs → AllByRecursion (λ h. held_by hs h.member h.item ≡ Some h.units) hs
 found_own [] a = tt
 found_own (h ∷ hs) a = (held_step h hs h.member h.item ∙ ap (λ t. cond t (Some h.units) (held_by hs h.member h.item)) (pair_is h h.member h.item refl refl), go hs a.0 (found_own hs a.1))
   where
     differ : (k : Holding) → is_of k h.member h.item ≡ false → is_of h k.member k.item ≡ false
     differ k e = ⊎_elim (λ t. let p = same_pair h k.member k.item t in absurd (both_ways (is_of k h.member h.item) e (pair_is k h.member h.item (sym p.0) (sym p.1)))) (λ t. t) (cases_Bool (is_of h k.member k.item))
 
-    go : (ks : List Holding) → has ks h.member h.item ≡ false → All (λ k. held_by hs k.member k.item ≡ Some k.units) ks → All (λ k. held_by (h ∷ hs) k.member k.item ≡ Some k.units) ks
+    go : (ks : List Holding) → has ks h.member h.item ≡ false → AllByRecursion (λ k. held_by hs k.member k.item ≡ Some k.units) ks → AllByRecursion (λ k. held_by (h ∷ hs) k.member k.item ≡ Some k.units) ks
     go [] e w = tt
     go (k ∷ ks) e w =
         let p = or_parts (is_of k h.member h.item) (has ks h.member h.item) e in

@@ -1,6 +1,6 @@
 -- What comes and goes at each node of a book's network.
 use Rattle.std.proofs.Common.{◌≡◌, ℕ, zero, suc, ◌+◌, ◌-◌, ◌*◌, ◌<◌, ◌≤◌, eqb, List, [], ◌∷◌, ◌++◌, length, sym, refl, ap, ◌∙◌, ap₂, ⊎_elim, arith}
-use Rattle.std.specs.List.{AllByRecursion as All}
+use Rattle.std.specs.List.{AllByRecursion}
 use Rattle.std.proofs.lemmas.Bool.{cases_lt}
 use Rattle.flow.specs.Graphs.{when}
 use Rattle.flow.specs.declared.arc.Arc.{Arc}
@@ -96,22 +96,22 @@ module _ (n : ℕ) (hs : List Holding) where
       ∙ ap₂ ◌+◌ (offer_going v p o (f 0) ∙ omega (arith, when_ne p v (f 0).own (omega arith), when_ne (p + 1) v (all_of o.get (f 0).get) (omega arith))) (offers_going v (p + 2) os (λ k. f (suc k)) (omega arith))
 
   -- past the items no get line ends, and past the holdings no give line begins
-  get_none : (v : ℕ) (ls : List Line) (x : ℕ → ℕ) → n ≤ v → All (Fair n) ls → of_item v ls x ≡ 0
+  get_none : (v : ℕ) (ls : List Line) (x : ℕ → ℕ) → n ≤ v → AllByRecursion (Fair n) ls → of_item v ls x ≡ 0
   get_none v ls x h e = sum_none (Fair n) (λ l y. when (eqb l.item v) y) (λ l y k. when_ne l.item v y (omega arith)) ls x e
 
-  give_none : (v : ℕ) (o : Offer) (x : ℕ → ℕ) → n + length hs ≤ v → All (Fair n) o.give → left_by v o x ≡ 0
+  give_none : (v : ℕ) (o : Offer) (x : ℕ → ℕ) → n + length hs ≤ v → AllByRecursion (Fair n) o.give → left_by v o x ≡ 0
   give_none v o x h e = sum_none (Fair n) (λ l y. when (eqb (leaves n hs o.member l.item) v) y) (λ l y k. when_ne (leaves n hs o.member l.item) v y (λ t. omega (arith, leaves_under n hs o.member l.item (omega arith)))) o.give x e
 
   -- and m members
   module _ (m : ℕ) where
-    pub got_none : (v : ℕ) (os : List Offer) (f : ℕ → OfferFlows) → n ≤ v → All (FairOffer n m) os → got_at v os f ≡ 0
+    pub got_none : (v : ℕ) (os : List Offer) (f : ℕ → OfferFlows) → n ≤ v → AllByRecursion (FairOffer n m) os → got_at v os f ≡ 0
     got_none v os f h e = sum_none (FairOffer n m) (λ o g. of_item v o.get g.get) (λ o g k. get_none v o.get g.get h k.gets.fair) os f e
 
-    left_none : (v : ℕ) (os : List Offer) (f : ℕ → OfferFlows) → n + length hs ≤ v → All (FairOffer n m) os → left_from v os f ≡ 0
+    left_none : (v : ℕ) (os : List Offer) (f : ℕ → OfferFlows) → n + length hs ≤ v → AllByRecursion (FairOffer n m) os → left_from v os f ≡ 0
     left_none v os f h e = sum_none (FairOffer n m) (λ o g. left_by v o g.give) (λ o g k. give_none v o g.give h k.gives.fair) os f e
 
     -- past the holdings' nodes
-    module _ (p : ℕ) (o : Offer) (os : List Offer) (f : ℕ → OfferFlows) (e : All (FairOffer n m) (o ∷ os)) where
+    module _ (p : ℕ) (o : Offer) (os : List Offer) (f : ℕ → OfferFlows) (e : AllByRecursion (FairOffer n m) (o ∷ os)) where
       abbrev rest : List Arc
       rest = offers_arcs n hs (p + 2) os (λ k. f (suc k))
 
@@ -134,7 +134,7 @@ module _ (n : ℕ) (hs : List Holding) where
     abbrev EvenFrom : ℕ → List Offer → (ℕ → OfferFlows) → Type 0
     EvenFrom p os f = (v : ℕ) → p ≤ v → v < p + 2 * length os → coming v (offers_arcs n hs p os f) ≡ going v (offers_arcs n hs p os f)
 
-    conserved : (p : ℕ) (os : List Offer) (f : ℕ → OfferFlows) → n + length hs ≤ p → All (FairOffer n m) os → EvenFrom p os f → AllWith Conserved os f
+    conserved : (p : ℕ) (os : List Offer) (f : ℕ → OfferFlows) → n + length hs ≤ p → AllByRecursion (FairOffer n m) os → EvenFrom p os f → AllWith Conserved os f
     conserved p [] f l e c = tt
     conserved p (o ∷ os) f l e c = ((inside, outside), conserved (p + 2) os (λ k. f (suc k)) (omega arith) e.1 beyond)
       where
@@ -147,7 +147,7 @@ module _ (n : ℕ) (hs : List Holding) where
         beyond : EvenFrom (p + 2) os (λ k. f (suc k))
         beyond v h k = omega (arith, c v (omega arith) (omega arith), past_coming p o os f e v (omega arith), past_going p o os f e v (omega arith), when_ne p v (all_of o.give (f 0).give) (omega arith), when_ne p v (f 0).own (omega arith), when_ne (p + 1) v (f 0).own (omega arith), when_ne (p + 1) v (all_of o.get (f 0).get) (omega arith))
 
-    even_from : (p : ℕ) (os : List Offer) (f : ℕ → OfferFlows) → n + length hs ≤ p → All (FairOffer n m) os → AllWith Conserved os f → EvenFrom p os f
+    even_from : (p : ℕ) (os : List Offer) (f : ℕ → OfferFlows) → n + length hs ≤ p → AllByRecursion (FairOffer n m) os → AllWith Conserved os f → EvenFrom p os f
     even_from p [] f l e c v h k = absurd (omega arith)
     even_from p (o ∷ os) f l e c v h k = past_coming p o os f e v (omega arith) ∙ ap₂ ◌+◌ ends (⊎_elim none (λ r. even_from (p + 2) os (λ k. f (suc k)) (omega arith) e.1 c.1 v r (omega arith)) (cases_lt v (p + 2))) ∙ sym (past_going p o os f e v (omega arith))
       where

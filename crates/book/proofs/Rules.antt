@@ -1,6 +1,6 @@
 -- An allotment is allowed just where its filling is a circulation within the capacities.
 use Rattle.std.proofs.Common.{◌≡◌, ℕ, suc, ◌+◌, ◌<◌, ◌≤◌, true, false, cond, ◌&&◌, ◌||◌, eqb, List, [], ◌∷◌, length, get_or, Some, sym, refl, ap, ◌∙◌, subst, ap₂, subst₂, ⊎_elim, arith}
-use Rattle.std.specs.List.{AllByRecursion as All}
+use Rattle.std.specs.List.{AllByRecursion}
 use Rattle.std.proofs.ByRecursion.{All-append}
 use Rattle.std.proofs.lemmas.Bool.{eq-eqb, ne_eqb, eqb-true, eqb-false, cases_Bool, cond_both, cond-false, and_parts, or_parts, or_from, both_ways}
 use Rattle.flow.specs.Graphs.{when}
@@ -20,7 +20,7 @@ abbrev pub Fits : Arc → Type 0
 Fits a = a.flow ≤ a.capacity
 
 abbrev pub Fitting : List Arc → Type 0
-Fitting xs = All Fits xs
+Fitting xs = AllByRecursion Fits xs
 
 pub apart : (b : Book) → Sound b → Apart b.holdings
 apart b s = distinct_is_apart b.holdings s.holdings_apart
@@ -39,16 +39,16 @@ module _ (n : ℕ) (hs : List Holding) where
   offers_fitting p [] f e = tt
   offers_fitting p (o ∷ os) f e = (parts_offer Fits n hs p o (f 0) (all_left Fits (offer_arcs n hs p o (f 0)) (offers_arcs n hs (p + 2) os (λ k. f (suc k))) e), offers_fitting (p + 2) os (λ k. f (suc k)) (all_right Fits (offer_arcs n hs p o (f 0)) (offers_arcs n hs (p + 2) os (λ k. f (suc k))) e))
 
-fitting_held : (q : ℕ) (hs : List Holding) (f : Holding → ℕ) → All (λ h. f h ≤ h.units) hs → Fitting (holding_arcs q hs (λ k. f (get_or hs k no_holding)))
+fitting_held : (q : ℕ) (hs : List Holding) (f : Holding → ℕ) → AllByRecursion (λ h. f h ≤ h.units) hs → Fitting (holding_arcs q hs (λ k. f (get_or hs k no_holding)))
 fitting_held q [] f e = tt
 fitting_held q (h ∷ hs) f e = (e.0, fitting_held (q + 1) hs f e.1)
 
-held_fitting : (q : ℕ) (hs : List Holding) (f : Holding → ℕ) → Fitting (holding_arcs q hs (λ k. f (get_or hs k no_holding))) → All (λ h. f h ≤ h.units) hs
+held_fitting : (q : ℕ) (hs : List Holding) (f : Holding → ℕ) → Fitting (holding_arcs q hs (λ k. f (get_or hs k no_holding))) → AllByRecursion (λ h. f h ≤ h.units) hs
 held_fitting q [] f e = tt
 held_fitting q (h ∷ hs) f e = (e.0, held_fitting (q + 1) hs f e.1)
 
 -- a holding bounds what its member gives of its item
-owned_some : (G : ℕ → ℕ → ℕ) (hs : List Holding) (m j : ℕ) → has hs m j ≡ true → All (λ h. G h.member h.item ≤ h.units) hs → MayGive (held_by hs m j) j (G m j)
+owned_some : (G : ℕ → ℕ → ℕ) (hs : List Holding) (m j : ℕ) → has hs m j ≡ true → AllByRecursion (λ h. G h.member h.item ≤ h.units) hs → MayGive (held_by hs m j) j (G m j)
 owned_some G [] m j e w = absurd (both_ways false refl e)
 owned_some G (h ∷ hs) m j e w = subst (λ o. MayGive o j (G m j)) (sym (held_step h hs m j)) (⊎_elim here (λ t. there t (owned_some G hs m j (ap (λ z. z || has hs m j) (sym t) ∙ e) w.1)) (cases_Bool (is_of h m j)))
   where
@@ -131,15 +131,15 @@ module _ (b : Book) (s : Sound b) (a : Allotment) where
       G : ℕ → ℕ → ℕ
       G = given_by os a
 
-      lines : (m : ℕ) → m < length b.members → (ls : List Line) (x : ℕ → ℕ) → All (Fair n) ls → AllWith (λ l y. y ≤ G m l.item) ls x → KeepsLimits ls x → AllWith (λ l y. y ≤ capacity hs m l) ls x
+      lines : (m : ℕ) → m < length b.members → (ls : List Line) (x : ℕ → ℕ) → AllByRecursion (Fair n) ls → AllWith (λ l y. y ≤ G m l.item) ls x → KeepsLimits ls x → AllWith (λ l y. y ≤ capacity hs m l) ls x
       lines m k [] x e c v = tt
       lines m k (l ∷ ls) x e c v = (line_room hs m l (x 0) (G m l.item) (w.owned m l.item k e.0.known) c.0 v.0, lines m k ls (λ t. x (suc t)) e.1 c.1 v.1)
 
-      go : (ps : List Offer) (c : Allotment) → All (FairOffer n (length b.members)) ps → AllWith (λ o u. AllWith (λ l y. y ≤ G o.member l.item) o.give u.give) ps c → AllWith (λ o u. KeepsLimits o.give u.give) ps c → AllWith (λ o u. all_of o.give u.give ≤ o.limit) ps c → AllWith (λ o u. KeepsLimits o.get u.get) ps c → AllWith (λ o u. Room n hs o (as_filled o u)) ps c
+      go : (ps : List Offer) (c : Allotment) → AllByRecursion (FairOffer n (length b.members)) ps → AllWith (λ o u. AllWith (λ l y. y ≤ G o.member l.item) o.give u.give) ps c → AllWith (λ o u. KeepsLimits o.give u.give) ps c → AllWith (λ o u. all_of o.give u.give ≤ o.limit) ps c → AllWith (λ o u. KeepsLimits o.get u.get) ps c → AllWith (λ o u. Room n hs o (as_filled o u)) ps c
       go [] c e v x y z = tt
       go (o ∷ ps) c e v x y z = ((lines o.member e.0.known o.give (c 0).give e.0.gives.fair v.0 x.0, y.0, z.0), go ps (λ k. c (suc k)) e.1 v.1 x.1 y.1 z.1)
 
-  held_room : Allowed b a → All (λ h. given_by os a h.member h.item ≤ h.units) hs
+  held_room : Allowed b a → AllByRecursion (λ h. given_by os a h.member h.item ≤ h.units) hs
   held_room w = all_both (FairHolding n (length b.members)) (λ h. held_by hs h.member h.item ≡ Some h.units) (λ h. given_by os a h.member h.item ≤ h.units) (λ h k e. subst (λ o. MayGive o h.item (given_by os a h.member h.item)) e (w.owned h.member h.item k.0 k.1)) hs s.holdings_fair (found_own hs (apart b s))
 
   fits : Allowed b a → Fitting (laid b (filling b a))

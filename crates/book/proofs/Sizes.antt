@@ -1,6 +1,6 @@
 -- The network of a sound book is within the bounds of networks.
 use Rattle.std.proofs.Common.{◌≡◌, ℕ, suc, ◌+◌, ◌*◌, ◌<◌, ◌≤◌, Bool, true, false, cond, eqb, List, [], ◌∷◌, length, pos, negsuc, neg_ℤ, ◌≤ℤ◌, sym, refl, ap, subst, ⊎_elim, arith}
-use Rattle.std.specs.List.{AllByRecursion as All}
+use Rattle.std.specs.List.{AllByRecursion}
 use Rattle.std.proofs.ByRecursion.{All-append, All-get_or, All-weaker}
 use Rattle.std.proofs.lemmas.List.{get_or_past}
 use Rattle.std.proofs.lemmas.Int.{ints}
@@ -47,12 +47,12 @@ neg_high p = omega (arith, ints)
 pos_low : (p : ℕ) → negsuc 999999 ≤ℤ pos p
 pos_low p = omega (arith, ints)
 
-good_held : (n m items q : ℕ) (hs : List Holding) (x : ℕ → ℕ) → items ≤ n → q + length hs ≤ n → All (FairHolding items m) hs → All (Good n) (holding_arcs q hs x)
+good_held : (n m items q : ℕ) (hs : List Holding) (x : ℕ → ℕ) → items ≤ n → q + length hs ≤ n → AllByRecursion (FairHolding items m) hs → AllByRecursion (Good n) (holding_arcs q hs x)
 good_held n m items q [] x k l e = tt
 good_held n m items q (h ∷ hs) x k l e = (record { from_in = omega (arith, e.0.1); to_in = omega arith; small = e.0.2; low = pos_low 0; high = high_price 0 (omega arith); light = omega arith }, good_held n m items (q + 1) hs (λ k. x (suc k)) k (omega arith) e.1)
 
 module _ (items m : ℕ) (hs : List Holding) (n : ℕ) where
-  good_offers : (p : ℕ) (os : List Offer) (f : ℕ → OfferFlows) → items + length hs ≤ p → p + 2 * length os ≤ n → All (FairOffer items m) os → All (Good n) (offers_arcs items hs p os f)
+  good_offers : (p : ℕ) (os : List Offer) (f : ℕ → OfferFlows) → items + length hs ≤ p → p + 2 * length os ≤ n → AllByRecursion (FairOffer items m) os → AllByRecursion (Good n) (offers_arcs items hs p os f)
   good_offers p [] f l h e = tt
   good_offers p (o ∷ os) f l h e =
       All-append (Good n) (offer_arcs items hs p o (f 0)) (offers_arcs items hs (p + 2) os (λ k. f (suc k)))
@@ -69,7 +69,7 @@ module _ (items m : ℕ) (hs : List Holding) (n : ℕ) where
       gotten : (w : Line) (y : ℕ) → Fair items w → Good n (get_arc (p + 1) w y)
       gotten w y r = record { from_in = omega arith; to_in = omega arith; small = r.most; low = pos_low w.price; high = high_price w.price r.price; light = weekly (eqb w.item 0) }
 
-good : (b : Book) (f : Flows) → Sound b → All (Good (nodes b)) (laid b f)
+good : (b : Book) (f : Flows) → Sound b → AllByRecursion (Good (nodes b)) (laid b f)
 good b f s =
     All-append (Good (nodes b)) (holding_arcs (length b.items) b.holdings f.held) (offers_arcs (length b.items) b.holdings (length b.items + length b.holdings) b.offers f.offers)
     (good_held (nodes b) (length b.members) (length b.items) (length b.items) b.holdings f.held (omega arith) (omega arith) s.holdings_fair)
@@ -99,15 +99,15 @@ sound_laid b f s w = record {
 abbrev Empty : Arc → Type 0
 Empty a = a.flow ≡ 0
 
-empty_held : (q : ℕ) (hs : List Holding) → All Empty (holding_arcs q hs no_flows.held)
+empty_held : (q : ℕ) (hs : List Holding) → AllByRecursion Empty (holding_arcs q hs no_flows.held)
 empty_held q [] = tt
 empty_held q (h ∷ hs) = (refl, empty_held (q + 1) hs)
 
-empty_offers : (n : ℕ) (hs : List Holding) (p : ℕ) (os : List Offer) → All Empty (offers_arcs n hs p os no_flows.offers)
+empty_offers : (n : ℕ) (hs : List Holding) (p : ℕ) (os : List Offer) → AllByRecursion Empty (offers_arcs n hs p os no_flows.offers)
 empty_offers n hs p [] = tt
 empty_offers n hs p (o ∷ os) = All-append Empty (offer_arcs n hs p o (no_flows.offers 0)) (offers_arcs n hs (p + 2) os no_flows.offers) (all_offer Empty n hs p o (no_flows.offers 0) (with_from_at (λ l y. y ≡ 0) o.give (λ t. 0) (λ k d l. refl), refl, with_from_at (λ l y. y ≡ 0) o.get (λ t. 0) (λ k d l. refl))) (empty_offers n hs (p + 2) os)
 
-empty : (b : Book) → All Empty (arcs_of b)
+empty : (b : Book) → AllByRecursion Empty (arcs_of b)
 empty b = All-append Empty (holding_arcs (length b.items) b.holdings no_flows.held) (offers_arcs (length b.items) b.holdings (length b.items + length b.holdings) b.offers no_flows.offers) (empty_held (length b.items) b.holdings) (empty_offers (length b.items) b.holdings (length b.items + length b.holdings) b.offers)
 
 pub network_is_sound_lem : NetworkIsSound

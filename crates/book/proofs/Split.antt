@@ -1,6 +1,6 @@
 -- The units given of an item are those that leave from its holdings and those that leave from the item itself.
 use Rattle.std.proofs.Common.{◌≡◌, ℕ, zero, suc, ◌+◌, ◌<◌, Bool, true, false, cond, ◌&&◌, eqb, List, [], ◌∷◌, length, get_or, sym, refl, ap, ◌∙◌, ap₂, ⊎_elim, arith}
-use Rattle.std.specs.List.{AllByRecursion as All}
+use Rattle.std.specs.List.{AllByRecursion}
 use Rattle.std.proofs.lemmas.Bool.{cases_Bool, or_parts}
 use Rattle.flow.specs.Graphs.{when}
 use Rattle.book.specs.Rows.{sum_with}
@@ -118,7 +118,7 @@ module _ (n : ℕ) (hs : List Holding) (apart : Apart hs) where
   given_split v os g l = ap (λ t. t + left_from n hs v os g) (held_over v hs (λ h. given_by os (lines_of g) h.member h.item)) ∙ offers_split v os g l
 
   -- what leaves from holding k is what its member gives of its item
-  pub given_from : (m k : ℕ) (os : List Offer) (g : ℕ → OfferFlows) → k < length hs → All (FairOffer n m) os → held_flows hs os (lines_of g) k ≡ left_from n hs (n + k) os g
+  pub given_from : (m k : ℕ) (os : List Offer) (g : ℕ → OfferFlows) → k < length hs → AllByRecursion (FairOffer n m) os → held_flows hs os (lines_of g) k ≡ left_from n hs (n + k) os g
   given_from m k [] g l e = refl
   given_from m k (o ∷ os) g l e =
       let h : Holding = get_or hs k no_holding in

@@ -1,6 +1,6 @@
 -- Sums over lists, and over lists whose entries go with something by number.
 use Rattle.std.proofs.Common.{◌≡◌, ℕ, suc, ◌+◌, Bool, true, false, eqb, List, [], ◌∷◌, ◌++◌, length, refl, ap, ◌∙◌, ap₂, arith}
-use Rattle.std.specs.List.{AllByRecursion as All}
+use Rattle.std.specs.List.{AllByRecursion}
 use Rattle.std.proofs.lemmas.Bool.{eq-eqb, ne_eqb}
 use Rattle.flow.specs.Graphs.{when}
 use Rattle.book.specs.Rows.{sum_with, map_with}
@@ -26,11 +26,11 @@ module _ {X U : Type 0} where
   sum_zero [] u = refl
   sum_zero (x ∷ xs) u = omega (arith, sum_zero xs (λ k. u (suc k)))
 
-  pub sum_same : (P : X → Type 0) (f g : X → U → ℕ) → ((x : X) (v : U) → P x → f x v ≡ g x v) → (xs : List X) (u : ℕ → U) → All P xs → sum_with f xs u ≡ sum_with g xs u
+  pub sum_same : (P : X → Type 0) (f g : X → U → ℕ) → ((x : X) (v : U) → P x → f x v ≡ g x v) → (xs : List X) (u : ℕ → U) → AllByRecursion P xs → sum_with f xs u ≡ sum_with g xs u
   sum_same P f g h [] u e = refl
   sum_same P f g h (x ∷ xs) u e = ap₂ ◌+◌ (h x (u 0) e.0) (sum_same P f g h xs (λ k. u (suc k)) e.1)
 
-  pub sum_none : (P : X → Type 0) (f : X → U → ℕ) → ((x : X) (v : U) → P x → f x v ≡ 0) → (xs : List X) (u : ℕ → U) → All P xs → sum_with f xs u ≡ 0
+  pub sum_none : (P : X → Type 0) (f : X → U → ℕ) → ((x : X) (v : U) → P x → f x v ≡ 0) → (xs : List X) (u : ℕ → U) → AllByRecursion P xs → sum_with f xs u ≡ 0
   sum_none P f h xs u e = sum_same P f (λ x v. 0) h xs u e ∙ sum_zero xs u
 
   pub sum_alike : (f g : X → U → ℕ) → ((x : X) (v : U) → f x v ≡ g x v) → (xs : List X) (u : ℕ → U) → sum_with f xs u ≡ sum_with g xs u

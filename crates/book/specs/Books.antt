@@ -1,7 +1,7 @@
 -- What a round holds, and what is always true of it.
 use Rattle.std.specs.Prelude.{◌≡◌, ℕ, ◌+◌, ◌<◌, ◌≤◌, Bool, cond, ◌&&◌, List, [], ◌∷◌, map, length, get_or, Some, None, codes, Option, ◌==◌, ◌≢◌, slice_index_or}
 use Rattle.std.specs.Option.{option_map}
-use Rattle.std.specs.List.{AllByRecursion as All}
+use Rattle.std.specs.List.{AllByRecursion}
 use Rattle.book.specs.Spelling.{Spelt}
 use Rattle.book.specs.declared.line.Line.{Line}
 use Rattle.book.specs.declared.holding.Holding.{Holding}
@@ -84,7 +84,7 @@ pub record Fair (n : ℕ) (l : Line) : Type 0 where
 -- a side of an offer: it is not bare, and no item stands on it twice
 pub record Side (n : ℕ) (ls : List Line) : Type 0 where
   pub some : 1 ≤ length ls
-  pub fair : All (Fair n) ls
+  pub fair : AllByRecursion (Fair n) ls
   pub apart : Distinct (map item_of ls)
 
 -- an offer over n items by one of m members
@@ -98,15 +98,15 @@ pub record FairOffer (n m : ℕ) (o : Offer) : Type 0 where
 -- what is true of every round's book
 pub record Sound (b : Book) : Type 0 where
   pub cash : (0 < length b.items) × (slice_index_or b.items 0 [] ≡ codes "cash")
-  pub items_spelt : All Spelt b.items
+  pub items_spelt : AllByRecursion Spelt b.items
   pub items_apart : Distinct b.items
   pub items_few : length b.items ≤ 16
-  pub members_spelt : All Spelt b.members
+  pub members_spelt : AllByRecursion Spelt b.members
   pub members_apart : Distinct b.members
   pub members_few : length b.members ≤ 32
-  pub holdings_fair : All (FairHolding (length b.items) (length b.members)) b.holdings
+  pub holdings_fair : AllByRecursion (FairHolding (length b.items) (length b.members)) b.holdings
   pub holdings_apart : Distinct (map pair b.holdings)
   pub holdings_few : length b.holdings ≤ 128
-  pub offers_fair : All (FairOffer (length b.items) (length b.members)) b.offers
+  pub offers_fair : AllByRecursion (FairOffer (length b.items) (length b.members)) b.offers
   pub offers_few : length b.offers ≤ 64
   pub lines_few : line_count b.offers ≤ 256

@@ -1,6 +1,6 @@
 -- A walk that visits a node twice has a cycle in it, and a shorter walk is left without it.
 use Rattle.std.proofs.Common.{◌≡◌, ℕ, suc, ◌+◌, ◌<◌, ◌≤◌, ◌⊎◌, List, [], ◌∷◌, length, sym, refl, ap, ◌∙◌, subst, inl, inr, ⊎_elim, arith}
-use Rattle.std.specs.List.{AllByRecursion as All}
+use Rattle.std.specs.List.{AllByRecursion}
 use Rattle.std.proofs.lemmas.Bool.{cases_eq}
 use Rattle.flow.specs.Groups.{Kind}
 use Rattle.flow.specs.Graphs.{Graph, Sound}
@@ -24,7 +24,7 @@ module _ {W : Type 0} (N : Graph W) where
   start_in z (Forward i) h = z.frm_in i h
   start_in z (Backward i) h = z.to_in i h
 
-  pub visits_in : Sound N → (u : ℕ → ℕ) (a : ℕ) (p : List Step) (b : ℕ) → Walk N u a p b → b < N.nodes → All (λ x. x < N.nodes) (visits p b)
+  pub visits_in : Sound N → (u : ℕ → ℕ) (a : ℕ) (p : List Step) (b : ℕ) → Walk N u a p b → b < N.nodes → AllByRecursion (λ x. x < N.nodes) (visits p b)
   visits_in z u a [] b w h = (h, tt)
   visits_in z u a (s ∷ p) b w h = (start_in z s w.1.0, visits_in z u (stop N s) p b w.2 h)
 

@@ -1,6 +1,6 @@
 -- Residual steps, walks and cycles of them, and flow shifted along one.
 use Rattle.std.specs.Prelude.{◌≡◌, ℕ, ◌+◌, ◌-◌, ◌*◌, ◌<◌, ◌≤◌, List, [], ◌∷◌, ◌==◌, ◌≢◌}
-use Rattle.std.specs.List.{AllByRecursion as All}
+use Rattle.std.specs.List.{AllByRecursion}
 use Rattle.worth.specs.Kinds.{Ops}
 use Rattle.flow.specs.Groups.{Lt}
 use Rattle.flow.specs.Graphs.{Graph, when}
@@ -90,4 +90,4 @@ module _ {W : Type 0} (N : Graph W) where
 
   -- each step can take d
   abbrev pub Allows : (ℕ → ℕ) → List Step → ℕ → Type 0
-  Allows u c d = All (λ s. d ≤ residual N u s) c
+  Allows u c d = AllByRecursion (λ s. d ≤ residual N u s) c

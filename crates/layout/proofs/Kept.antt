@@ -1,6 +1,6 @@
 -- The lines of each sort are kept just where the whole list of them keeps the rules.
 use Rattle.std.proofs.Common.{◌≡◌, ℕ, ◌<◌, ◌≤◌, ◌⊎◌, List, [], ◌∷◌, ◌++◌, map, length, get_or, ℤ, nat_abs, None, codes, sym, refl, ap, ◌∙◌, subst, inl, inr, arith}
-use Rattle.std.specs.List.{ContainsAt as Has, AllByRecursion as All}
+use Rattle.std.specs.List.{ContainsAt as Has, AllByRecursion}
 use Rattle.std.proofs.ByRecursion.{All-push}
 use Rattle.std.proofs.lemmas.List.{length-append, get_or_at, map_push, map-append}
 use Rattle.tables.specs.Refusals.{Row, when, First}
@@ -27,7 +27,7 @@ short n le = few_digits 13 n (omega arith) (omega arith) (omega arith)
 -- Items
 
 abbrev pub ItemsWhole : List (List ℕ) → Type 0
-ItemsWhole names = All Spelt names × Distinct names × (0 < length names → get_or names 0 [] ≡ codes "cash")
+ItemsWhole names = AllByRecursion Spelt names × Distinct names × (0 < length names → get_or names 0 [] ≡ codes "cash")
 
 module _ (k : Kind) where
   abbrev at_items : List (List ℕ) → Contents
@@ -72,7 +72,7 @@ module _ (k : Kind) where
 -- Members
 
 abbrev pub MembersWhole : List (List ℕ) → Type 0
-MembersWhole names = All Spelt names × Distinct names
+MembersWhole names = AllByRecursion Spelt names × Distinct names
 
 module _ (k : Kind) (items : List (List ℕ)) where
   abbrev at_members : List (List ℕ) → Contents
@@ -99,7 +99,7 @@ module _ (k : Kind) (items : List (List ℕ)) where
 -- Holdings
 
 abbrev pub HoldingsWhole : ℕ → ℕ → List Holding → Type 0
-HoldingsWhole n m hs = All (FairHolding n m) hs × Distinct (map pair hs)
+HoldingsWhole n m hs = AllByRecursion (FairHolding n m) hs × Distinct (map pair hs)
 
 module _ (k : Kind) (items members : List (List ℕ)) where
   abbrev at_holdings : List Holding → Contents
@@ -156,7 +156,7 @@ abbrev pub FairFilled : ℕ → LineWithUnits → Type 0
 FairFilled n l = Fair n l.line × (l.units ≤ 1000)
 
 abbrev pub SideWhole : ℕ → List LineWithUnits → Type 0
-SideWhole n ls = All (FairFilled n) ls × Distinct (map item_of (map line_of ls))
+SideWhole n ls = AllByRecursion (FairFilled n) ls × Distinct (map item_of (map line_of ls))
 
 abbrev item_on : LineWithUnits → ℕ
 item_on l = l.line.item
@@ -287,10 +287,10 @@ module _ (k : Kind) (items members : List (List ℕ)) (hs : List Holding) (os : 
   abbrev at_levels : List (List ℤ) → Contents
   at_levels zs = holds k items members hs os zs
 
-  pub levels_grow : (above : List (List ℤ)) (zs : List ℤ) → All (FairLevel k) above → Kept level (at_levels above) zs → All (FairLevel k) (above ++ zs ∷ [])
+  pub levels_grow : (above : List (List ℤ)) (zs : List ℤ) → AllByRecursion (FairLevel k) above → Kept level (at_levels above) zs → AllByRecursion (FairLevel k) (above ++ zs ∷ [])
   levels_grow above zs fair (p, f) = All-push (FairLevel k) above zs fair (p.0, at_most (level_size zs) 1000000 (not_first f))
 
-  pub levels_shrink : (above : List (List ℤ)) (zs : List ℤ) (more : List (List ℤ)) → All (FairLevel k) (above ++ zs ∷ more) → Kept level (at_levels above) zs
+  pub levels_shrink : (above : List (List ℤ)) (zs : List ℤ) (more : List (List ℤ)) → AllByRecursion (FairLevel k) (above ++ zs ∷ more) → Kept level (at_levels above) zs
   levels_shrink above zs more fair = let p = all_mid (FairLevel k) above more zs fair in ((p.0, level_short k zs p), next (λ l. omega (arith, p.1)) refl)
 
   abbrev pub levels_list : Listing level
@@ -299,7 +299,7 @@ module _ (k : Kind) (items members : List (List ℕ)) (hs : List Holding) (os : 
     at = at_levels;
     grows = λ above zs. refl;
     free = λ above zs p. row_free legible_signed zs;
-    Whole = All (FairLevel k);
+    Whole = AllByRecursion (FairLevel k);
     none = tt;
     grow = levels_grow;
     shrink = levels_shrink;

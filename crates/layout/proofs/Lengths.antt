@@ -1,6 +1,6 @@
 -- No record is longer than 32,768 bytes.
 use Rattle.std.proofs.Common.{◌≡◌, ℕ, suc, ◌+◌, ◌*◌, ◌≤◌, ◌⊎◌, List, [], ◌∷◌, ◌++◌, map, length, ℤ, pos, negsuc, sym, ap, ◌∙◌, subst, inl, inr, append_assoc, arith}
-use Rattle.std.specs.List.{AllByRecursion as All}
+use Rattle.std.specs.List.{AllByRecursion}
 use Rattle.std.proofs.ByRecursion.{All-weaker}
 use Rattle.std.proofs.lemmas.List.{length-append, length-map}
 use Rattle.tables.proofs.Firsts.{not_first}
@@ -20,7 +20,7 @@ use Rattle.layout.proofs.Offers.{FairFilledOffer, OffersWhole, lines_filled, cou
 use Rattle.layout.proofs.Wholes.{SectionsWhole}
 
 -- the bytes of lines of at most b bytes each
-ended_length : {X : Type 0} (b : ℕ) (f : X → List ℕ) (xs : List X) → All (λ x. length (f x) ≤ b) xs → length (ended (map f xs)) ≤ (b + 1) * length xs
+ended_length : {X : Type 0} (b : ℕ) (f : X → List ℕ) (xs : List X) → AllByRecursion (λ x. length (f x) ≤ b) xs → length (ended (map f xs)) ≤ (b + 1) * length xs
 ended_length b f [] h = omega arith
 ended_length b f (x ∷ xs) h = omega (arith, h.0, ended_length b f xs h.1, length-append (f x) (10 ∷ ended (map f xs)))
 
@@ -29,7 +29,7 @@ ended_append [] ms = omega arith
 ended_append (l ∷ ls) ms = omega (arith, ended_append ls ms, length-append l (10 ∷ ended (ls ++ ms)), length-append l (10 ∷ ended ls))
 
 -- the bytes of numbers of at most w bytes each, with a space before each
-spaced_length : {X : Type 0} (notation : Notation X) (w : ℕ) (xs : List X) → All (λ x. length (notation.spelling x) ≤ w) xs → length (spaced notation xs) ≤ (w + 1) * length xs
+spaced_length : {X : Type 0} (notation : Notation X) (w : ℕ) (xs : List X) → AllByRecursion (λ x. length (notation.spelling x) ≤ w) xs → length (spaced notation xs) ≤ (w + 1) * length xs
 spaced_length notation w [] h = omega arith
 spaced_length notation w (x ∷ xs) h = omega (arith, h.0, spaced_length notation w xs h.1, length-append (notation.spelling x) (spaced notation xs))
 
@@ -49,10 +49,10 @@ level_length by_money_then_weeks (a ∷ []) e h = absurd (omega arith)
 level_length by_money_then_weeks (a ∷ b ∷ []) e h = omega (arith, level_bytes a h.0, level_bytes b h.1.0, length-append (level_spelt a) (32 ∷ (level_spelt b ++ [])), length-append (level_spelt b) [])
 level_length by_money_then_weeks (a ∷ b ∷ c ∷ zs) e h = absurd (omega arith)
 
-section_length : (which : Section) (s : Slot) (b : ℕ) (cs : List (Says s)) → length (spelt (length cs)) ≤ 13 → All (λ c. length (spell s c) ≤ b) cs → length (ended (section which s cs)) ≤ 16 + (b + 1) * length cs
+section_length : (which : Section) (s : Slot) (b : ℕ) (cs : List (Says s)) → length (spelt (length cs)) ≤ 13 → AllByRecursion (λ c. length (spell s c) ≤ b) cs → length (ended (section which s cs)) ≤ 16 + (b + 1) * length cs
 section_length which s b cs h a = omega (arith, length-append (spelt (length cs)) (10 ∷ ended (map (spell s) cs)), ended_length b (spell s) cs a)
 
-lines_length : (n : ℕ) (ls : List LineWithUnits) → n ≤ 16 → All (FairFilled n) ls → length (ended (map (spell give) ls)) ≤ 56 * length ls
+lines_length : (n : ℕ) (ls : List LineWithUnits) → n ≤ 16 → AllByRecursion (FairFilled n) ls → length (ended (map (spell give) ls)) ≤ 56 * length ls
 lines_length n ls few h = ended_length 55 (spell give) ls (All-weaker _ _ (λ l p. row_length l.line.item (l.line.limit ∷ l.line.price ∷ l.units ∷ []) (line_short n l few p)) ls h)
 
 kind_length : (k : Kind) → length (ended (kind_section k)) ≤ 16

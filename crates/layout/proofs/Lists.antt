@@ -1,6 +1,6 @@
 -- Lists of names, lines and offers: what holds of a list with one entry more, and of an entry in the middle.
 use Rattle.std.proofs.Common.{◌≡◌, ℕ, ◌+◌, ◌<◌, ◌≤◌, true, ◌⊎◌, List, [], ◌∷◌, ◌++◌, map, length, get_or, sym, refl, ap, ◌∙◌, subst, inl, inr, arith}
-use Rattle.std.specs.List.{ContainsAt as Has, AllByRecursion as All}
+use Rattle.std.specs.List.{ContainsAt as Has, AllByRecursion}
 use Rattle.std.proofs.lemmas.List.{length-append, length_push, get_or_append_left, get_or_at, get_or_push, get_or_default, map_push, map-append}
 use Rattle.std.proofs.lemmas.Bool.{cases_lt, cases_eq, cases_Bool, both_ways, and_parts}
 use Rattle.text.specs.Parts.{Free}
@@ -41,7 +41,7 @@ free_name [] e = free_none 10
 free_name (b ∷ s) e = let p = and_parts (name_byte b) (name_bytes s) e in free_cons 10 b s (λ q. both_ways (name_byte b) (ap name_byte q) p.0) (free_name s p.1)
 
 -- what holds of each entry holds of one in the middle
-pub all_mid : {X : Type 0} (P : X → Type 0) (xs ys : List X) (x : X) → All P (xs ++ x ∷ ys) → P x
+pub all_mid : {X : Type 0} (P : X → Type 0) (xs ys : List X) (x : X) → AllByRecursion P (xs ++ x ∷ ys) → P x
 all_mid P [] ys x h = h.0
 all_mid P (z ∷ xs) ys x h = all_mid P xs ys x h.1
 

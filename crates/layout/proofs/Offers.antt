@@ -1,6 +1,6 @@
 -- The offers of a record: each its head, and under it its lines.
 use Rattle.std.proofs.Common.{◌≡◌, ℕ, zero, suc, ◌+◌, ◌≤◌, ◌⊎◌, List, [], ◌∷◌, ◌++◌, map, length, replicate, sym, refl, ap, ◌∙◌, subst, inl, inr, append_assoc, append-nil, arith}
-use Rattle.std.specs.List.{AllByRecursion as All}
+use Rattle.std.specs.List.{AllByRecursion}
 use Rattle.std.proofs.ByRecursion.{All-push}
 use Rattle.std.proofs.lemmas.List.{length-map}
 use Rattle.tables.proofs.Firsts.{next, not_first, not_rest}
@@ -21,13 +21,13 @@ abbrev pub FairFilledOffer : ℕ → ℕ → OfferWithUnits → Type 0
 FairFilledOffer n m f = FairOffer n m (offer_of f) × (FairUnits f.give × FairUnits f.get)
 
 abbrev pub OffersWhole : ℕ → ℕ → List OfferWithUnits → Type 0
-OffersWhole n m fs = All (FairFilledOffer n m) fs × (line_count (map offer_of fs) ≤ 256)
+OffersWhole n m fs = AllByRecursion (FairFilledOffer n m) fs × (line_count (map offer_of fs) ≤ 256)
 
-lines_fair : (n : ℕ) (ls : List LineWithUnits) → All (FairFilled n) ls → All (Fair n) (map line_of ls) × FairUnits ls
+lines_fair : (n : ℕ) (ls : List LineWithUnits) → AllByRecursion (FairFilled n) ls → AllByRecursion (Fair n) (map line_of ls) × FairUnits ls
 lines_fair n [] h = (tt, tt)
 lines_fair n (l ∷ ls) h = let t = lines_fair n ls h.1 in ((h.0.0, t.0), (h.0.1, t.1))
 
-pub lines_filled : (n : ℕ) (ls : List LineWithUnits) → All (Fair n) (map line_of ls) → FairUnits ls → All (FairFilled n) ls
+pub lines_filled : (n : ℕ) (ls : List LineWithUnits) → AllByRecursion (Fair n) (map line_of ls) → FairUnits ls → AllByRecursion (FairFilled n) ls
 lines_filled n [] h u = tt
 lines_filled n (l ∷ ls) h u = ((h.0, u.0), lines_filled n ls h.1 u.1)
 

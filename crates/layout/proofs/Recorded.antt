@@ -1,6 +1,6 @@
 -- Each round, allotment and levels have their record.
 use Rattle.std.proofs.Common.{◌≡◌, ℕ, zero, suc, ◌<◌, ◌≤◌, List, [], ◌∷◌, map, length, get_or, sym, refl, ap, ◌∙◌, subst, inr, arith}
-use Rattle.std.specs.List.{AllByRecursion as All}
+use Rattle.std.specs.List.{AllByRecursion}
 use Rattle.book.specs.Allotments.{Allotment, AlikeOn}
 use Rattle.book.specs.Arcs.{nodes}
 use Rattle.book.specs.Books.{Offer, no_offer, Sound}
@@ -34,7 +34,7 @@ offers_alike [] a k lt = absurd (omega arith)
 offers_alike (o ∷ os) a zero lt = record { give = units_same o.give (a 0).give; get = units_same o.get (a 0).get }
 offers_alike (o ∷ os) a (suc k) lt = offers_alike os (λ k. a (suc k)) k (omega arith)
 
-offers_fair : (os : List Offer) (a : Allotment) → FairAllotment os a → All (λ f. FairUnits f.give × FairUnits f.get) (map_with fill_offer os a)
+offers_fair : (os : List Offer) (a : Allotment) → FairAllotment os a → AllByRecursion (λ f. FairUnits f.give × FairUnits f.get) (map_with fill_offer os a)
 offers_fair [] a h = tt
 offers_fair (o ∷ os) a h = ((units_fair o.give (a 0).give h.0.0, units_fair o.get (a 0).get h.0.1), offers_fair os (λ k. a (suc k)) h.1)
 

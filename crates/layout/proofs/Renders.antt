@@ -1,6 +1,6 @@
 -- A text reads as contents exactly when it is their record and they keep the rules.
 use Rattle.std.proofs.Common.{◌≡◌, ℕ, ◌≤◌, ◌⊎◌, List, [], ◌∷◌, ◌++◌, map, length, codes, sym, refl, ap, ◌∙◌, subst, inl, inr, append-nil, arith}
-use Rattle.std.specs.List.{AllByRecursion as All}
+use Rattle.std.specs.List.{AllByRecursion}
 use Rattle.tables.proofs.Firsts.{not_first}
 use Rattle.text.specs.Parts.{Free}
 use Rattle.text.specs.declared.section.Section.{Section}
@@ -45,7 +45,7 @@ record OffersRead (x : Contents) (n m : ℕ) (Then : List OfferWithUnits → Lis
 
 -- from each section on, up to the contents read
 abbrev LevelsOn : Contents → Kind → List (List ℕ) → List (List ℕ) → List Holding → List OfferWithUnits → List ℕ → Type 0
-LevelsOn out k items members hs os text = SectionRead Levels level (holds k items members hs os []) (All (FairLevel k)) (λ zs rest. (holds k items members hs os zs ≡ out) × (rest ≡ [])) text
+LevelsOn out k items members hs os text = SectionRead Levels level (holds k items members hs os []) (AllByRecursion (FairLevel k)) (λ zs rest. (holds k items members hs os zs ≡ out) × (rest ≡ [])) text
 
 abbrev OffersOn : Contents → Kind → List (List ℕ) → List (List ℕ) → List Holding → List ℕ → Type 0
 OffersOn out k items members hs text = OffersRead (holds k items members hs [] []) (length items) (length members) (LevelsOn out k items members hs) text
@@ -142,7 +142,7 @@ record_from_reading text x r =
 join : (ls ms : List (List ℕ)) → ended ls ++ ended ms ≡ ended (ls ++ ms)
 join ls ms = last_text (ended ls ++ ended ms) (ended ms) ls ms refl refl
 
-words_free : (k : Kind) → All (Free 10) (words k)
+words_free : (k : Kind) → AllByRecursion (Free 10) (words k)
 words_free by_money = (free_name (codes "money") refl, tt)
 words_free by_money_then_weeks = (free_name (codes "money") refl, (free_name (codes "weeks") refl, tt))
 

@@ -1,6 +1,6 @@
 -- Lines of one sort below each other: what they say is taken off a text that reads, and put before one.
 use Rattle.std.proofs.Common.{◌≡◌, ℕ, zero, suc, ◌+◌, List, [], ◌∷◌, ◌++◌, map, length, replicate, None, sym, refl, ap, ◌∙◌, subst, subst₂, append_assoc, append-nil, arith}
-use Rattle.std.specs.List.{AllByRecursion as All}
+use Rattle.std.specs.List.{AllByRecursion}
 use Rattle.tables.specs.Refusals.{First}
 use Rattle.text.specs.Parts.{Free}
 use Rattle.text.specs.declared.section.Section.{Section}
@@ -76,7 +76,7 @@ take_words (w ∷ ws) due x text line out r =
     let t = take_words ws due x h.rest h.line out h.then in
     record { rest = t.rest; line = t.line; text_is = cons_text w h.rest t.rest text ws h.text_is t.text_is; then = t.then }
 
-pub put_words : (ws : List (List ℕ)) (due : List Slot) (x : Contents) (rest : List ℕ) (out : Contents) → All (Free 10) ws → ReadsFrom due x rest out → ReadsFrom (map word ws ++ due) x (ended ws ++ rest) out
+pub put_words : (ws : List (List ℕ)) (due : List Slot) (x : Contents) (rest : List ℕ) (out : Contents) → AllByRecursion (Free 10) ws → ReadsFrom due x rest out → ReadsFrom (map word ws ++ due) x (ended ws ++ rest) out
 put_words [] due x rest out f r = r
 put_words (w ∷ ws) due x rest out f r =
     let p = put_line {s = word w} {due = map word ws ++ due} {x = x} {rest = ended ws ++ rest} tt f.0 (tt, refl) (put_words ws due x rest out f.1 r) in
@@ -148,7 +148,7 @@ module _ {s : Slot} (l : Listing s) where
   put_lines cs due rest out w r = put_below cs due [] rest out w r
 
   -- what each line that is kept has
-  pub all_from_whole : (P : Says s → Type 0) → ((above : List (Says s)) (c : Says s) → Kept s (l.at above) c → P c) → (cs above : List (Says s)) → l.Whole (above ++ cs) → All P cs
+  pub all_from_whole : (P : Says s → Type 0) → ((above : List (Says s)) (c : Says s) → Kept s (l.at above) c → P c) → (cs above : List (Says s)) → l.Whole (above ++ cs) → AllByRecursion P cs
   all_from_whole P h [] above w = tt
   all_from_whole P h (c ∷ cs) above w = (h above c (l.shrink above c cs w), all_from_whole P h cs (above ++ c ∷ []) (subst l.Whole (sym (append_assoc above (c ∷ []) cs)) w))
 

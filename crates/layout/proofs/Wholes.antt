@@ -1,6 +1,6 @@
 -- Contents keep the rules where each section does.
 use Rattle.std.proofs.Common.{◌≡◌, ℕ, ◌≤◌, ◌⊎◌, List, [], ◌∷◌, map, length, refl, inl, inr, arith}
-use Rattle.std.specs.List.{AllByRecursion as All}
+use Rattle.std.specs.List.{AllByRecursion}
 use Rattle.std.proofs.lemmas.List.{length-map}
 use Rattle.tables.proofs.Firsts.{next, not_first}
 use Rattle.text.specs.declared.section.Section.TheVariants.{Items, Members, Holdings, Offers, Levels}
@@ -24,13 +24,13 @@ pub record SectionsWhole (x : Contents) : Type 0 where
   pub offers_kept : Kept (head Offers) (holds x.kind x.items x.members x.holdings [] []) (length x.offers)
   pub offers : OffersWhole (length x.items) (length x.members) x.offers
   pub levels_kept : Kept (head Levels) (holds x.kind x.items x.members x.holdings x.offers []) (length x.levels)
-  pub levels : All (FairLevel x.kind) x.levels
+  pub levels : AllByRecursion (FairLevel x.kind) x.levels
 
-offers_fair : (n m : ℕ) (fs : List OfferWithUnits) → All (FairFilledOffer n m) fs → All (FairOffer n m) (map offer_of fs) × All (λ f. FairUnits f.give × FairUnits f.get) fs
+offers_fair : (n m : ℕ) (fs : List OfferWithUnits) → AllByRecursion (FairFilledOffer n m) fs → AllByRecursion (FairOffer n m) (map offer_of fs) × AllByRecursion (λ f. FairUnits f.give × FairUnits f.get) fs
 offers_fair n m [] h = (tt, tt)
 offers_fair n m (f ∷ fs) h = let t = offers_fair n m fs h.1 in ((h.0.0, t.0), (h.0.1, t.1))
 
-offers_filled : (n m : ℕ) (fs : List OfferWithUnits) → All (FairOffer n m) (map offer_of fs) → All (λ f. FairUnits f.give × FairUnits f.get) fs → All (FairFilledOffer n m) fs
+offers_filled : (n m : ℕ) (fs : List OfferWithUnits) → AllByRecursion (FairOffer n m) (map offer_of fs) → AllByRecursion (λ f. FairUnits f.give × FairUnits f.get) fs → AllByRecursion (FairFilledOffer n m) fs
 offers_filled n m [] h u = tt
 offers_filled n m (f ∷ fs) h u = ((h.0, u.0), offers_filled n m fs h.1 u.1)
 

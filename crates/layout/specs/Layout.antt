@@ -1,6 +1,6 @@
 -- The layout: which lines a record has, what each says and how it is spelt, which lines it calls for, and which rules it may break.
 use Rattle.std.specs.Prelude.{◌≡◌, ℕ, ◌+◌, ◌<◌, ◌≤◌, ◌⊎◌, List, [], ◌∷◌, ◌++◌, map, length, replicate, ℤ, codes, ◌≢◌}
-use Rattle.std.specs.List.{ContainsAt as Has, AllByRecursion as All}
+use Rattle.std.specs.List.{ContainsAt as Has, AllByRecursion}
 use Rattle.tables.specs.Refusals.{Row, when}
 use Rattle.text.specs.Numbers.{spelt, unsigned, signed, Notation}
 use Rattle.text.specs.Rows.{row_spelt}
@@ -68,7 +68,7 @@ spell level zs = row_spelt signed zs
 
 -- numbers of at most 13 digits
 abbrev pub Short : {X : Type 0} → Notation X → List X → Type 0
-Short notation xs = All (λ x. notation.digit_count x ≤ 13) xs
+Short notation xs = AllByRecursion (λ x. notation.digit_count x ≤ 13) xs
 
 -- the counts that the head of a section may have after these contents
 abbrev pub Counts : Section → Contents → ℕ → Type 0

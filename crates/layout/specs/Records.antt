@@ -1,6 +1,6 @@
 -- What a record holds, and which rules its contents keep.
 use Rattle.std.specs.Prelude.{◌≡◌, ℕ, ◌≤◌, max, cond, ◌⊎◌, List, [], ◌∷◌, map, length, ℤ, codes, ◌==◌, slice_index, slice_index_or}
-use Rattle.std.specs.List.{AllByRecursion as All}
+use Rattle.std.specs.List.{AllByRecursion}
 use Rattle.worth.specs.Money.{money, of_cents}
 use Rattle.worth.specs.Weeks.{weeks, of_count}
 use Rattle.book.specs.Allotments.{Allotment, Units, Alike}
@@ -86,13 +86,13 @@ FairLevel k zs = (length zs ≡ parts k) × (level_size zs ≤ 1000000)
 
 -- each line of a side has at most 1,000 units
 abbrev pub FairUnits : List LineWithUnits → Type 0
-FairUnits ls = All (λ l. l.units ≤ 1000) ls
+FairUnits ls = AllByRecursion (λ l. l.units ≤ 1000) ls
 
 -- the contents keep the rules: the book is sound, units and levels are within their bounds, and each node has a level or none has
 pub record Valid (x : Contents) : Type 0 where
   pub sound : Sound (book_of x)
-  pub units : All (λ o. FairUnits o.give × FairUnits o.get) x.offers
-  pub levels : All (FairLevel x.kind) x.levels
+  pub units : AllByRecursion (λ o. FairUnits o.give × FairUnits o.get) x.offers
+  pub levels : AllByRecursion (FairLevel x.kind) x.levels
   pub levelled : (length x.levels ≡ 0) ⊎ (length x.levels ≡ nodes (book_of x))
 
 abbrev pub fill_line : Line → ℕ → LineWithUnits
@@ -114,7 +114,7 @@ FairAllotment os a = AllWith (λ o u. AllWith (λ l n. n ≤ 1000) o.give u.give
 pub record Recorded (k : Kind) (b : Book) (a : Allotment) (zs : List (List ℤ)) : Type 0 where
   pub book : book_of (contents_of k b a zs) ≡ b
   pub allotment : Alike b.offers (allotted (contents_of k b a zs)) a
-  pub valid : Sound b → FairAllotment b.offers a → All (FairLevel k) zs → length zs ≡ nodes b → Valid (contents_of k b a zs)
+  pub valid : Sound b → FairAllotment b.offers a → AllByRecursion (FairLevel k) zs → length zs ≡ nodes b → Valid (contents_of k b a zs)
 
 abbrev pub AllRecorded : Type 0
 AllRecorded = (k : Kind) (b : Book) (a : Allotment) (zs : List (List ℤ)) → Recorded k b a zs

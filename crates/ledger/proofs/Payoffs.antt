@@ -4,7 +4,7 @@ use lib.Signed.{non_neg}
 use Rattle.std.proofs.lemmas.Int.{ints, to_z-of_z}
 use Rattle.std.proofs.lemmas.Bool.{cases_lt}
 use Rattle.std.proofs.lemmas.Bool.Decides.{nat_tests}
-use Rattle.std.specs.List.{AllByRecursion as All}
+use Rattle.std.specs.List.{AllByRecursion}
 use Rattle.worth.specs.Kinds.{Ops}
 use Rattle.worth.specs.Lexicographic.{pile, pair}
 use Rattle.worth.specs.Money.{money}
@@ -45,7 +45,7 @@ line_few Give week u = omega arith
 line_few Get true u = omega arith
 line_few Get false u = omega arith
 
-weeks_each : (ts : List Trade) → All (λ t. sound t ≡ true) ts → weeks_got ts ≤ 1000 * length ts
+weeks_each : (ts : List Trade) → AllByRecursion (λ t. sound t ≡ true) ts → weeks_got ts ≤ 1000 * length ts
 weeks_each [] h = omega arith
 weeks_each (t ∷ ts) h = omega (arith, line_few t.side t.is_week t.units, (bounded t h.0).units, weeks_each ts h.1)
 
@@ -90,7 +90,7 @@ unfolding payoffs_below
 no_payoffs zero = refl
 no_payoffs (suc n) = ap (λ z. z +ℤ payoff_of n []) (no_payoffs n)
 
-payoffs_each : (ts : List Trade) → All (λ t. sound t ≡ true) ts → payoffs_below 64 ts ≡ balance ts
+payoffs_each : (ts : List Trade) → AllByRecursion (λ t. sound t ≡ true) ts → payoffs_below 64 ts ≡ balance ts
 payoffs_each [] h = no_payoffs 64
 payoffs_each (t ∷ ts) h = let a = one_more t ts 64 (bounded t h.0).offer in let b = payoffs_each ts h.1 in omega (arith, ints)
 

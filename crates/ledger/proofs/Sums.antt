@@ -1,7 +1,7 @@
 -- The trades of a ledger are sound, so that computing their worth is exact.
 use Rattle.std.proofs.Common.{◌≡◌, ℕ, zero, suc, ◌+◌, ◌*◌, ◌<◌, ◌≤◌, Bool, true, false, cond, not, ◌&&◌, eqb, List, [], ◌∷◌, ◌++◌, map, length, get_or, take, ℤ, pos, neg_ℤ, Ok, Err, Result, sym, refl, ap, ◌∙◌, subst, ap₂, suc-mul, mul-le-mul_left, arith, w64, SFits, to_z, of_z}
 use borrow.Author.Differences.{ints}
-use Rattle.std.specs.List.{AllByRecursion as All}
+use Rattle.std.specs.List.{AllByRecursion}
 use Rattle.std.proofs.lemmas.List.Elements.{filter_more}
 use Rattle.std.proofs.ByRecursion.{All-get_or, All-push, all_kept_by}
 use Rattle.std.proofs.lemmas.List.Filters.{length-filter_both}
@@ -40,11 +40,11 @@ and_right : (a b : Bool) → (a && b) ≡ true → b ≡ true
 and_right true b h = h
 and_right false b h = absurd (let z : ◌≡◌ {A = ℕ} 0 1 = cc in omega arith)
 
-pub each_sound : (ts : List Trade) → all_sound ts ≡ true → All (λ t. sound t ≡ true) ts
+pub each_sound : (ts : List Trade) → all_sound ts ≡ true → AllByRecursion (λ t. sound t ≡ true) ts
 each_sound [] h = tt
 each_sound (t ∷ ts) h = (and_left (sound t) (all_sound ts) h, each_sound ts (and_right (sound t) (all_sound ts) h))
 
-pub sound_each : (ts : List Trade) → All (λ t. sound t ≡ true) ts → all_sound ts ≡ true
+pub sound_each : (ts : List Trade) → AllByRecursion (λ t. sound t ≡ true) ts → all_sound ts ≡ true
 sound_each [] h = refl
 sound_each (t ∷ ts) h = rw h.0 (sound_each ts h.1)
 

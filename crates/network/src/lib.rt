@@ -6,4 +6,4 @@ pub mod circulation;
 pub mod improvable;
 pub mod potentials;
 pub mod readable;
-pub mod worth;
+pub mod valuation;

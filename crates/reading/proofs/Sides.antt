@@ -1,6 +1,6 @@
 -- The lines of an offer's sides, one after the other.
 use Rattle.std.proofs.Common.{◌≡◌, ℕ, suc, ◌+◌, ◌≤◌, List, [], ◌∷◌, ◌++◌, map, length, replicate, IfOk, Ok, Err, Option, Result, sym, ap, ◌∙◌, subst, inl, inr, append_assoc, append-nil, arith}
-use Rattle.std.specs.List.{ContainsAt as Has, AllByRecursion as All}
+use Rattle.std.specs.List.{ContainsAt as Has, AllByRecursion}
 use Rattle.std.proofs.ByRecursion.{All-push}
 use Rattle.std.proofs.lemmas.List.{length-map, length-append, length_push, map_push}
 use Rattle.tables.specs.Refusals.{Row, when, First, refusal}
@@ -80,7 +80,7 @@ module _ (items : ℕ) (gs : List Line) (n : ℕ) where
     many = q;
     lines_are = sym e;
     units_are = append-nil units;
-    fair = subst (All (Fair items)) (sym e) tt;
+    fair = subst (AllByRecursion (Fair items)) (sym e) tt;
     apart = subst (λ ls. Distinct (map item_of ls)) (sym e) none_apart;
     no_loop = subst (λ ls. Loop gs ls → ⊥) (sym e) (λ h. omega (arith, (h.2 (record { item = 0; limit = 0; price = 0 })).1.1));
     onward = λ p x h due w. let same : n ≡ m = omega arith in subst (λ k. Onward (replicate n (slot p) ++ due) (with_part p x h []) before (replicate k (slot p) ++ due) (with_part p x h []) before) same (λ o r. r);
@@ -99,7 +99,7 @@ module _ (items : ℕ) (gs : List Line) (n : ℕ) where
           many = omega (arith, length_push ls (line_said l));
           lines_are = map_push line_of ls (line_said l) ∙ ap (λ xs. xs ++ l.line ∷ []) d.lines_are ∙ sym grown;
           units_are = ap (λ us. units ++ us) (map_push units_of ls (line_said l)) ∙ sym (append_assoc units (map units_of ls) (l.units ∷ [])) ∙ ap (λ us. us ++ l.units ∷ []) d.units_are ∙ sym more;
-          fair = subst (All (Fair items)) (sym grown) (All-push (Fair items) lines l.line d.fair fair.fair);
+          fair = subst (AllByRecursion (Fair items)) (sym grown) (All-push (Fair items) lines l.line d.fair fair.fair);
           apart = subst (λ xs. Distinct (map item_of xs)) (sym grown) (apart_push item_of lines l.line d.apart (subst (λ ls. Has (map item_of ls) l.line.item → ⊥) same fair.apart));
           no_loop = subst (λ xs. Loop gs xs → ⊥) (sym grown) (λ h. elim (loop_push gs lines l.line h) [ inl p ↦ d.no_loop p | inr p ↦ fair.no_loop p ]);
           onward = λ p x h due w o z. d.onward p x h due w o (reads p x h ls w (d.lines_are ∙ sym same) (replicate m (slot p) ++ due) o z);

@@ -1,6 +1,6 @@
 -- Reading the offers of a record: the head of each, and under it the lines of its sides.
 use Rattle.std.specs.Prelude.{◌≡◌, ℕ, ◌+◌, ◌<◌, ◌≤◌, List, [], ◌∷◌, ◌++◌, map, length, replicate, Result, MatchResult, slice_index}
-use Rattle.std.specs.List.{ContainsAt as Has, AllByRecursion as All}
+use Rattle.std.specs.List.{ContainsAt as Has, AllByRecursion}
 use Rattle.text.specs.declared.fault.Fault.{Fault}
 use Rattle.text.specs.declared.reader.Reader.{Reader}
 use Rattle.book.specs.Books.{Book, Offer, Distinct, Loop, Fair, FairOffer, item_of, line_count}
@@ -76,7 +76,7 @@ pub record LinesRead (items : ℕ) (gs : List Line) (n m : ℕ) (lines : List Li
   pub many : length said + m ≡ n
   pub lines_are : map line_of said ≡ lines
   pub units_are : units ++ map units_of said ≡ units'
-  pub fair : All (Fair items) lines
+  pub fair : AllByRecursion (Fair items) lines
   pub apart : Distinct (map item_of lines)
   pub no_loop : Loop gs lines → ⊥
   pub onward : (p : Part) (x : Contents) (h : HeadOfOffer) (due : List Slot) → Within p x items gs → Onward (replicate n (slot p) ++ due) (with_part p x h []) before (replicate m (slot p) ++ due) (with_part p x h said) after

@@ -1,6 +1,6 @@
 -- The record of a closed round and levels: when it is refused, and that it reads back.
 use Rattle.std.proofs.Common.{◌≡◌, ℕ, suc, ◌<◌, ◌≤◌, List, [], ◌∷◌, ◌++◌, map, length, get_or, take, drop, ℤ, Ok, Err, Result, sym, refl, ap, ◌∙◌, subst, ⊎_elim, map-id, arith}
-use Rattle.std.specs.List.{AllWithin, AllByRecursion as All}
+use Rattle.std.specs.List.{AllWithin, AllByRecursion}
 use Rattle.std.proofs.ByRecursion.{All-from_get_or, All-map}
 use Rattle.std.proofs.lemmas.List.{get_or_default, get_or-map, get_or_past, length-map, length-take, take_all, take-map}
 use Rattle.std.proofs.lemmas.Bool.{cases_lt}
@@ -100,9 +100,9 @@ module _ {W : Type 0} {o : Ops W} {k : Kind} {level : W → Level} {worth : Leve
       any_unmap (λ w. numbers k (level w)) (λ w. 1000000 < o.size w) (λ z. 1000000 < level_size z) (λ w lt. subst (λ s. 1000000 < s) (told.sized w) lt) first
       (subst (Any (λ z. 1000000 < level_size z)) (sym first_levels) any)
 
-  pub levels_fair : (Any (λ w. 1000000 < o.size w) first → ⊥) → All (FairLevel k) (take n (map (λ w. numbers k (level w)) ws))
+  pub levels_fair : (Any (λ w. 1000000 < o.size w) first → ⊥) → AllByRecursion (FairLevel k) (take n (map (λ w. numbers k (level w)) ws))
   levels_fair none =
-      subst (All (FairLevel k)) first_levels (All-map (FairLevel k) (λ w. numbers k (level w)) first
+      subst (AllByRecursion (FairLevel k)) first_levels (All-map (FairLevel k) (λ w. numbers k (level w)) first
       (All-from_get_or (λ w. FairLevel k (numbers k (level w))) first o.none (λ i lt. (numbers_long k (level (get_or first i o.none)), small i lt))))
     where
       small : (i : ℕ) → i < length first → level_size (numbers k (level (get_or first i o.none))) ≤ 1000000

@@ -20,7 +20,7 @@ use Rattle.book.proofs.Filled.{laid_as_row, length_arcs}
 use Rattle.layout.specs.Records.{LineWithUnits, OfferWithUnits, Contents, no_filled_offer, line_of, units_of, units_on, offer_of, book_of, allotted}
 use Rattle.record.specs.Evidence.{network_of}
 use Rattle.record.specs.Flows.{flow_row, given_from, flows_of, Stands, Shows, with_flows}
-use Rattle.record.specs.declared.network.filled.FilledOffer.{FilledOffer}
+use Rattle.record.specs.declared.record_network.filled.FilledOffer.{FilledOffer}
 use Rattle.record.proofs.Showing.{Bounded, stands_none}
 
 -- the flows of a list of arcs

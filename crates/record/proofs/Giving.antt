@@ -11,7 +11,7 @@ use Rattle.book.specs.declared.line.Line.{Line}
 use Rattle.layout.specs.Records.{Contents, no_filled_offer, offer_of, book_of, allotted}
 use Rattle.round.proofs.Sides.{sum_more}
 use Rattle.record.specs.Flows.{given_from, Stands, Moderate, Shows}
-use Rattle.record.specs.declared.network.filled.FilledOffer.{FilledOffer}
+use Rattle.record.specs.declared.record_network.filled.FilledOffer.{FilledOffer}
 use Rattle.record.proofs.Showing.{Bounded}
 
 -- all units of a side can be summed

@@ -1,7 +1,7 @@
 -- The law of evidence: levels that fit show an allotment to be best, and a best one has such levels.
 use Rattle.std.proofs.Common.{◌≡◌, ℕ, suc, ◌<◌, ◌≤◌, List, [], ◌∷◌, map, length, ℤ, sym, refl, ap, ◌∙◌, subst, subst₂, arith}
 use lib.ListN.{length-map}
-use Rattle.std.specs.List.{range_with_len, AllByRecursion as All}
+use Rattle.std.specs.List.{range_with_len, AllByRecursion}
 use Rattle.std.proofs.lemmas.List.FromFn.{length-map-range_with_len, get_or-map-range_with_len}
 use Rattle.std.proofs.ByRecursion.{All-from_get_or, All-map, All-weaker}
 use Rattle.worth.specs.Money.{money}
@@ -57,7 +57,7 @@ module _ {W : Type 0} (G : Group W) where
   record Row (b : Book) (a : Allotment) : Type 0 where
     row : List W
     long : length row ≡ nodes b
-    small : All (λ w. G.ops.size w ≤ 1000000) row
+    small : AllByRecursion (λ w. G.ops.size w ≤ 1000000) row
     fitted : Fitted G.ops (filled b a) row
 
   best_row : (b : Book) (a : Allotment) → Sound b → Allowed b a → BestAllotment G.ops b a → Row b a
@@ -88,16 +88,16 @@ module _ {W : Type 0} (G : Group W) where
       small v l = subst (λ x. G.ops.size x ≤ 1000000) (sym (there v l)) (omega (arith, p.small v l, (network_is_sound_lem b s).0.few_nodes))
 
 -- the limits of lines are at most 1,000, and so are the units of an allowed allotment
-units_within : (n : ℕ) (ls : List Line) (x : ℕ → ℕ) → All (Fair n) ls → KeepsLimits ls x → AllWith (λ l k. k ≤ 1000) ls x
+units_within : (n : ℕ) (ls : List Line) (x : ℕ → ℕ) → AllByRecursion (Fair n) ls → KeepsLimits ls x → AllWith (λ l k. k ≤ 1000) ls x
 units_within n [] x f k = tt
 units_within n (l ∷ ls) x f k = (omega (arith, f.0.most, k.0), units_within n ls (λ t. x (suc t)) f.1 k.1)
 
-pub fair_from_limits : (n m : ℕ) (os : List Offer) (a : Allotment) → All (FairOffer n m) os → AllWith (λ o u. KeepsLimits o.give u.give) os a → AllWith (λ o u. KeepsLimits o.get u.get) os a → FairAllotment os a
+pub fair_from_limits : (n m : ℕ) (os : List Offer) (a : Allotment) → AllByRecursion (FairOffer n m) os → AllWith (λ o u. KeepsLimits o.give u.give) os a → AllWith (λ o u. KeepsLimits o.get u.get) os a → FairAllotment os a
 fair_from_limits n m [] a f g h = tt
 fair_from_limits n m (o ∷ os) a f g h = ((units_within n o.give (a 0).give f.0.gives.fair g.0, units_within n o.get (a 0).get f.0.gets.fair h.0), fair_from_limits n m os (λ k. a (suc k)) f.1 g.1 h.1)
 
 -- a record passes where its allotment is allowed and its levels, one for each node, are fair and fit
-pub passes : (k : Kind) (b : Book) (a : Allotment) (zs : List (List ℤ)) → Sound b → Allowed b a → All (FairLevel k) zs → length zs ≡ nodes b → LevelsFit k (filled b a) zs → Passes (render (contents_of k b a zs)) (contents_of k b a zs)
+pub passes : (k : Kind) (b : Book) (a : Allotment) (zs : List (List ℤ)) → Sound b → Allowed b a → AllByRecursion (FairLevel k) zs → length zs ≡ nodes b → LevelsFit k (filled b a) zs → Passes (render (contents_of k b a zs)) (contents_of k b a zs)
 passes k b a zs s w fair long fits =
     let x : Contents = contents_of k b a zs in
     let r = all_recorded k b a zs in
@@ -114,7 +114,7 @@ module _ {W : Type 0} (G : Group W) (k : Kind) (numbers : W → List ℤ) (count
   levels_exist : (b : Book) (a : Allotment) → Sound b → Allowed b a → BestAllotment G.ops b a → (zs : List (List ℤ)) × Passes (render (contents_of k b a zs)) (contents_of k b a zs)
   levels_exist b a s w best =
       let r = best_row G b a s w best in
-      let fair : All (FairLevel k) (map numbers r.row) = All-map (FairLevel k) numbers r.row (All-weaker (λ w. G.ops.size w ≤ 1000000) (λ w. FairLevel k (numbers w)) (λ w h. (counted w, omega (arith, sized w))) r.row r.small) in
+      let fair : AllByRecursion (FairLevel k) (map numbers r.row) = All-map (FairLevel k) numbers r.row (All-weaker (λ w. G.ops.size w ≤ 1000000) (λ w. FairLevel k (numbers w)) (λ w h. (counted w, omega (arith, sized w))) r.row r.small) in
       (map numbers r.row, passes k b a (map numbers r.row) s w fair (length-map r.row numbers ∙ r.long) (fitting (filled b a) r.row r.fitted))
 
 best_by : (k : Kind) (b : Book) (a : Allotment) (zs : List (List ℤ)) → Sound b → Allowed b a → LevelsFit k (filled b a) zs → BestBy k b a

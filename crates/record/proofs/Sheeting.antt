@@ -1,7 +1,7 @@
 -- Sheets, and the records that clear them.
 use Rattle.std.proofs.Common.{◌≡◌, ℕ, ◌<◌, ◌≤◌, List, [], ◌∷◌, map, length, take, ℤ, Some, Ok, Err, Result, sym, refl, subst, ⊎_elim, arith}
 use lib.ListN.{length-map}
-use Rattle.std.specs.List.{AllByRecursion as All}
+use Rattle.std.specs.List.{AllByRecursion}
 use Rattle.std.proofs.ByRecursion.{All-append}
 use Rattle.std.proofs.lemmas.List.{get_or-take, length-take-le}
 use Rattle.std.proofs.lemmas.Bool.{cases_lt}
@@ -34,30 +34,30 @@ use Rattle.record.proofs.Filing.{first_levels, worths_over, levels_fair, long_le
 use Rattle.record.proofs.Passing.{same_graph, fits_alike, passes}
 
 -- no units in a row, and none on the lines
-zeros : (ls : List LineWithUnits) → Unfilled ls → All (λ u. u ≡ 0) (map units_of ls)
+zeros : (ls : List LineWithUnits) → Unfilled ls → AllByRecursion (λ u. u ≡ 0) (map units_of ls)
 zeros [] h = tt
 zeros (l ∷ ls) h = (h.0, zeros ls h.1)
 
-unfilled : (ls : List LineWithUnits) → All (λ u. u ≡ 0) (map units_of ls) → Unfilled ls
+unfilled : (ls : List LineWithUnits) → AllByRecursion (λ u. u ≡ 0) (map units_of ls) → Unfilled ls
 unfilled [] h = tt
 unfilled (l ∷ ls) h = (h.0, unfilled ls h.1)
 
-pub row_zero : (fs : List OfferWithUnits) → All (λ o. Unfilled o.give × Unfilled o.get) fs → All (λ u. u ≡ 0) (units_in fs)
+pub row_zero : (fs : List OfferWithUnits) → AllByRecursion (λ o. Unfilled o.give × Unfilled o.get) fs → AllByRecursion (λ u. u ≡ 0) (units_in fs)
 row_zero [] h = tt
 row_zero (f ∷ fs) h = All-append (λ u. u ≡ 0) (map units_of f.give) _ (zeros f.give h.0.0) (All-append (λ u. u ≡ 0) (map units_of f.get) _ (zeros f.get h.0.1) (row_zero fs h.1))
 
-pub lines_unfilled : (fs : List OfferWithUnits) → All (λ u. u ≡ 0) (units_in fs) → All (λ o. Unfilled o.give × Unfilled o.get) fs
+pub lines_unfilled : (fs : List OfferWithUnits) → AllByRecursion (λ u. u ≡ 0) (units_in fs) → AllByRecursion (λ o. Unfilled o.give × Unfilled o.get) fs
 lines_unfilled [] h = tt
 lines_unfilled (f ∷ fs) h =
     let rest = all_right (λ u. u ≡ 0) (map units_of f.give) _ h in
     ((unfilled f.give (all_left (λ u. u ≡ 0) (map units_of f.give) _ h), unfilled f.get (all_left (λ u. u ≡ 0) (map units_of f.get) _ rest)), lines_unfilled fs (all_right (λ u. u ≡ 0) (map units_of f.get) _ rest))
 
 -- limits with and without the units
-pub limits_to : (fs : List OfferWithUnits) → All (λ o. 0 < o.limit) fs → All (λ o. 0 < o.limit) (map offer_of fs)
+pub limits_to : (fs : List OfferWithUnits) → AllByRecursion (λ o. 0 < o.limit) fs → AllByRecursion (λ o. 0 < o.limit) (map offer_of fs)
 limits_to [] h = tt
 limits_to (f ∷ fs) h = (h.0, limits_to fs h.1)
 
-pub limits_from : (fs : List OfferWithUnits) → All (λ o. 0 < o.limit) (map offer_of fs) → All (λ o. 0 < o.limit) fs
+pub limits_from : (fs : List OfferWithUnits) → AllByRecursion (λ o. 0 < o.limit) (map offer_of fs) → AllByRecursion (λ o. 0 < o.limit) fs
 limits_from [] h = tt
 limits_from (f ∷ fs) h = (h.0, limits_from fs h.1)
 

@@ -2,7 +2,7 @@
 use Rattle.std.proofs.Common.{◌≡◌, ℕ, zero, suc, ◌+◌, ◌<◌, ◌≤◌, List, [], ◌∷◌, ◌++◌, map, length, get_or, take, drop, sym, refl, ap, ◌∙◌, subst, arith}
 use mathlib.Core.Logic.{∥∥₁_elim}
 use native.Mathlib.Bridge.{le_prop}
-use Rattle.std.specs.List.{AllByRecursion as All}
+use Rattle.std.specs.List.{AllByRecursion}
 use Rattle.std.proofs.lemmas.List.{append_assoc, length-append, length-drop, length-map, drop-drop, drop_more, drop_at, take_at, get_or-map}
 use Rattle.book.specs.Books.{Book, no_offer}
 use Rattle.layout.specs.Records.{LineWithUnits, OfferWithUnits, Contents, no_filled_offer, line_of, units_of, units_on, offer_of, book_of, allotted, FairUnits}
@@ -13,7 +13,7 @@ use Rattle.reading.specs.Held.{units_in}
 use Rattle.reading.specs.declared.record.Record.{Record}
 use Rattle.reading.proofs.Helds.{units_counted}
 use Rattle.record.specs.Flows.{Stands, Shows}
-use Rattle.record.specs.declared.network.filled.FilledOffer.{FilledOffer}
+use Rattle.record.specs.declared.record_network.filled.FilledOffer.{FilledOffer}
 
 -- the bounds of what a record holds
 pub record Bounded (x : Contents) : Type 0 where
@@ -27,7 +27,7 @@ fair_side [] h t = omega arith
 fair_side (l ∷ ls) h zero = h.0
 fair_side (l ∷ ls) h (suc t) = fair_side ls h.1 t
 
-fair_offers : (os : List OfferWithUnits) → All (λ o. FairUnits o.give × FairUnits o.get) os → (k t : ℕ) → units_on (get_or os k no_filled_offer).give t ≤ 1000
+fair_offers : (os : List OfferWithUnits) → AllByRecursion (λ o. FairUnits o.give × FairUnits o.get) os → (k t : ℕ) → units_on (get_or os k no_filled_offer).give t ≤ 1000
 fair_offers [] h k t = omega arith
 fair_offers (o ∷ os) h zero t = fair_side o.give h.0.0 t
 fair_offers (o ∷ os) h (suc k) t = fair_offers os h.1 k t

@@ -8,7 +8,7 @@ use Rattle.book.specs.declared.holding.Holding.{Holding}
 use Rattle.book.specs.declared.line.Line.{Line}
 use Rattle.layout.specs.Records.{OfferWithUnits, Contents, no_filled_offer, line_of, units_of, book_of, allotted}
 use Rattle.reading.specs.Held.{units_in}
-use Rattle.record.specs.declared.network.filled.FilledOffer.{FilledOffer}
+use Rattle.record.specs.declared.record_network.filled.FilledOffer.{FilledOffer}
 
 -- the flows on an offer's arcs in order: on its give lines, on its own arc all units that it gives, on its get lines
 abbrev pub flow_row : OfferWithUnits → List ℕ

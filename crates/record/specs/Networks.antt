@@ -7,7 +7,7 @@ use Rattle.network.specs.Networks.{Net}
 use Rattle.layout.specs.Records.{Contents, book_of}
 use Rattle.round.specs.Closed.{closed_book, closed_net}
 use Rattle.record.specs.Evidence.{network_of}
-use Rattle.record.specs.declared.network.RecordNetwork.{RecordNetwork}
+use Rattle.record.specs.declared.record_network.RecordNetwork.{RecordNetwork}
 
 -- some flow exceeds its arc's capacity
 abbrev pub Exceeds : Net → Type 0

@@ -1,6 +1,6 @@
 -- Sheets, and what clearing one does.
 use Rattle.std.specs.Prelude.{◌≡◌, ℕ, ◌<◌, ◌⊎◌, List, ◌++◌, length, drop, Result, MatchResult}
-use Rattle.std.specs.List.{AllByRecursion as All}
+use Rattle.std.specs.List.{AllByRecursion}
 use Rattle.tables.specs.Refusals.{number}
 use Rattle.tables.specs.declared.refusal.Refusal.{Refusal}
 use Rattle.text.specs.declared.fault.Fault.{Fault}
@@ -12,13 +12,13 @@ use Rattle.record.specs.Evidence.{Passes}
 
 -- no units on any line of a side
 abbrev pub Unfilled : List LineWithUnits → Type 0
-Unfilled ls = All (λ l. l.units ≡ 0) ls
+Unfilled ls = AllByRecursion (λ l. l.units ≡ 0) ls
 
 -- a sheet: no levels, no units, and no withdrawn offer
 pub record Sheet (x : Contents) : Type 0 where
   pub unlevelled : length x.levels ≡ 0
-  pub unfilled : All (λ o. Unfilled o.give × Unfilled o.get) x.offers
-  pub standing : All (λ o. 0 < o.limit) x.offers
+  pub unfilled : AllByRecursion (λ o. Unfilled o.give × Unfilled o.get) x.offers
+  pub standing : AllByRecursion (λ o. 0 < o.limit) x.offers
 
 -- y is a record that passes, of this kind and round
 pub record Clears (k : Kind) (b : Book) (y : Contents) : Type 0 where

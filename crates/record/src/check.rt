@@ -9,8 +9,8 @@ ghost use Rattle.record.specs.Checks.{result_of, Tested, Checks};
 ghost use Rattle.record.specs.Evidence.{Evidence};
 
 use super::levelled::Levelled;
-use super::network::draw;
 use super::passed::{OfferResult, Passed, Total};
+use super::record_network::draw;
 use network::circulation::is_circulation;
 use network::potentials::fits;
 use reading::kind::Kind;

@@ -5,6 +5,6 @@ pub mod check;
 pub mod evidence;
 pub mod file;
 pub mod levelled;
-pub mod network;
 pub mod passed;
+pub mod record_network;
 pub mod sheet;

@@ -1,5 +1,5 @@
 ghost use Rattle.std.specs.Prelude.{◌≡◌, ◌<◌, ◌≤◌, length, Decides};
-ghost use Rattle.std.specs.List.{AllByRecursion as All};
+ghost use Rattle.std.specs.List.{AllByRecursion};
 ghost use Rattle.reading.specs.Contents.{contents};
 ghost use Rattle.round.specs.Rounds.{book};
 ghost use Rattle.record.specs.Evidence.{Evidence};
@@ -17,7 +17,7 @@ use worth::money::Money;
 use worth::weeks::Weeks;
 
 fn are_zero(units: &[u32]) -> bool
-    ensures { Decides result (All (λ u. u ≡ 0) units.now) }
+    ensures { Decides result (AllByRecursion (λ u. u ≡ 0) units.now) }
 {
     for u in units {
         if *u != 0 {
@@ -29,7 +29,7 @@ fn are_zero(units: &[u32]) -> bool
 
 // Whether no offer of a round is withdrawn.
 fn are_standing(round: &OpenRound) -> bool
-    ensures { Decides result (All (λ o. 0 < o.limit) (book round.now).offers) }
+    ensures { Decides result (AllByRecursion (λ o. 0 < o.limit) (book round.now).offers) }
 {
     for k in 0..round.offer_count() {
         if let Some(offer) = round.offer_at(k) {

@@ -3,7 +3,7 @@ use Rattle.std.proofs.Common.{◌≡◌, ℕ, zero, suc, ◌+◌, ◌*◌, ◌<�
 use native.Mathlib.Bridge.{le_prop}
 use native.Mathlib.Nat.{ℕ_set}
 use mathlib.Core.Logic.{∥∥₁_elim}
-use Rattle.std.specs.List.{AllByRecursion as All}
+use Rattle.std.specs.List.{AllByRecursion}
 use Rattle.std.proofs.lemmas.List.{length-map, length-drop, length-take-le, get_or-take, get_or-drop}
 use Rattle.std.proofs.ByRecursion.{All-get_or}
 use Rattle.std.proofs.lemmas.Bool.{and_parts, eqb-true, eq-eqb, ne_eqb, cond-true, cond-false}
@@ -62,7 +62,7 @@ part_flow A first count t l = ap (λ a. a.flow) (get_or-take count (drop first A
 part_length : (A : List Arc) (first count : ℕ) → first + count ≤ length A → length (take count (drop first A)) ≡ count
 part_length A first count l = length-take-le count (drop first A) (omega (arith, length-drop first A))
 
-fair_side : {n m : ℕ} (s : Side) (o : Offer) → FairOffer n m o → All (Fair n) (lines_on s o)
+fair_side : {n m : ℕ} (s : Side) (o : Offer) → FairOffer n m o → AllByRecursion (Fair n) (lines_on s o)
 fair_side Give o f = f.gives.fair
 fair_side Get o f = f.gets.fair
 
@@ -107,7 +107,7 @@ module _ {W : Type 0} (x : ClosedRound W) where
         price t d l =
             ∥∥₁_elim x.round.sound le_prop
             (λ f. let g = All-get_or (FairOffer (length (closed_book x).items) (length (closed_book x).members)) (closed_book x).offers k no_offer en.known f.offers_fair in
-            (All-get_or (Fair (length (closed_book x).items)) ls t d l (subst (All (Fair (length (closed_book x).items))) (sym lines) (fair_side s (offer_at (closed_book x) k) g))).price)
+            (All-get_or (Fair (length (closed_book x).items)) ls t d l (subst (AllByRecursion (Fair (length (closed_book x).items))) (sym lines) (fair_side s (offer_at (closed_book x) k) g))).price)
 
 sum_suc : {X U : Type 0} (f : X → U → ℕ) (xs : List X) (u : ℕ → U) (i : ℕ) (d : X) → i < length xs → sum_with f (take (suc i) xs) u ≡ sum_with f (take i xs) u + f (get_or xs i d) (u i)
 sum_suc f [] u i d l = absurd (omega arith)

@@ -1,6 +1,6 @@
 -- Each call on an open round leaves its book sound.
 use Rattle.std.proofs.Common.{◌≡◌, ℕ, zero, suc, ◌+◌, ◌<◌, ◌≤◌, List, [], ◌∷◌, ◌++◌, map, length, get_or, set, Some, None, Ok, Err, Option, Result, sym, refl, ap, ◌∙◌, subst, inl, inr, arith}
-use Rattle.std.specs.List.{ContainsAt as Has, AllByRecursion as All}
+use Rattle.std.specs.List.{ContainsAt as Has, AllByRecursion}
 use Rattle.std.proofs.lemmas.List.{map_push, length-set, get_or_append_left, get_or_push, length_push, get_or_default}
 use Rattle.std.proofs.ByRecursion.{All-get_or, All-from_get_or, All-weaker, All-push, All-set}
 use Rattle.std.proofs.lemmas.Bool.{cases_lt, cases_Bool, both_ways}
@@ -131,7 +131,7 @@ put_apart : (hs : List Holding) (h : Holding) (spot : Option ℕ) → spot ≡ s
 put_apart hs h (Some k) e d = let s = spot_some hs h.member h.item k e in subst Distinct (sym (pairs_set hs k h s.0 s.1)) d
 put_apart hs h None e d = subst Distinct (sym (map_push pair hs h)) (distinct_push (map pair hs) (pair h) d (spot_none hs h.member h.item e))
 
-put_fair : (P : Holding → Type 0) (hs : List Holding) (h : Holding) (spot : Option ℕ) → All P hs → P h → All P (put_at spot hs h)
+put_fair : (P : Holding → Type 0) (hs : List Holding) (h : Holding) (spot : Option ℕ) → AllByRecursion P hs → P h → AllByRecursion P (put_at spot hs h)
 put_fair P hs h (Some k) a p = All-set P hs k h p a
 put_fair P hs h None a p = All-push P hs h a p
 

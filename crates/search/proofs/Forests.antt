@@ -1,7 +1,7 @@
 -- The forest of links: a step that would raise a node on its own way up closes a cycle worth more than none, any other
 -- keeps the forest; and a potential is at most the worth of a walk that visits no node twice.
 use Rattle.std.proofs.Common.{◌≡◌, ℕ, suc, ◌+◌, ◌<◌, ◌≤◌, ◌⊎◌, List, [], ◌∷◌, length, set, Some, None, Option, sym, refl, ap, ◌∙◌, subst, subst₂, inl, inr, ⊎_elim, arith}
-use Rattle.std.specs.List.{AllByRecursion as All}
+use Rattle.std.specs.List.{AllByRecursion}
 use Rattle.std.proofs.lemmas.List.{length-set, get_or-set_same, get_or-set_other}
 use Rattle.std.proofs.lemmas.Bool.{cases_eq}
 use Rattle.flow.specs.Groups.{Kind, Lt, Le}
@@ -31,7 +31,7 @@ link_off ks v s x d = get_or-set_other ks v x (Some s) None (λ e. d (sym e))
 module _ (ls : List Arc) where
   -- the nodes l lie no higher than a way up of length m
   abbrev Below : List (Option Step) → ℕ → List ℕ → Type 0
-  Below ks m l = All (λ y. (r : List Step) × Up ls ks y r × (m ≤ length r)) l
+  Below ks m l = AllByRecursion (λ y. (r : List Step) × Up ls ks y r × (m ≤ length r)) l
 
   below_less : (ks : List (Option Step)) (m k : ℕ) (l : List ℕ) → m ≤ k → Below ks k l → Below ks m l
   below_less ks m k [] h b = tt

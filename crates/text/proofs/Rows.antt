@@ -1,6 +1,6 @@
 -- Reading a row number by number.
 use Rattle.std.proofs.Common.{◌≡◌, ℕ, ◌+◌, ◌<◌, ◌≤◌, Bool, true, false, List, [], ◌∷◌, ◌++◌, length, get_or, take, drop, set, sym, refl, ap, ◌∙◌, subst, append_assoc, append-nil, add-zero, arith, length-set}
-use Rattle.std.specs.List.{AllByRecursion as All}
+use Rattle.std.specs.List.{AllByRecursion}
 use Rattle.std.proofs.lemmas.List.{drop-drop, get_or-drop, length-drop, take_all, take_more, take_more_set}
 use Rattle.text.specs.Numbers.{Notation, Legible, Spells}
 use Rattle.text.specs.Parts.{Free, FirstAt}
@@ -11,7 +11,7 @@ use Rattle.text.proofs.Cuts.{cut_once, no_first}
 pub record Whole {X : Type 0} (notation : Notation X) (bytes : List ℕ) (xs : List X) : Type 0 where
   pub some : 0 < length xs
   pub spelling : bytes ≡ row_spelt notation xs
-  pub short : All (λ x. notation.digit_count x ≤ 13) xs
+  pub short : AllByRecursion (λ x. notation.digit_count x ≤ 13) xs
 
 -- what is left of a row: nothing once it has ended, else the rest of its bytes
 abbrev pub Left : {X : Type 0} → Notation X → Bool → List ℕ → List X → Type 0

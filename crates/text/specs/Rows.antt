@@ -1,6 +1,6 @@
 -- Rows of numbers.
 use Rattle.std.specs.Prelude.{◌≡◌, ℕ, ◌<◌, ◌≤◌, List, [], ◌∷◌, ◌++◌, length}
-use Rattle.std.specs.List.{AllByRecursion as All}
+use Rattle.std.specs.List.{AllByRecursion}
 use Rattle.text.specs.Numbers.{Notation}
 
 -- numbers, each with a space before it
@@ -18,4 +18,4 @@ pub record SpellsRow {X : Type 0} (notation : Notation X) (n : ℕ) (bytes : Lis
   pub some : 0 < n
   pub count : length xs ≡ n
   pub spelling : bytes ≡ row_spelt notation xs
-  pub short : All (λ x. notation.digit_count x ≤ 13) xs
+  pub short : AllByRecursion (λ x. notation.digit_count x ≤ 13) xs

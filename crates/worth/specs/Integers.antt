@@ -2,7 +2,7 @@
 use Rattle.std.specs.Prelude.{◌≡◌, ℕ, zero, suc, ◌+◌, ◌≤◌, true, false, List, [], ◌∷◌, length, ℤ, pos, ◌+ℤ◌, ◌*ℤ◌, neg_ℤ, ◌≤ℤ◌, int_lt, unsigned_abs, refl}
 use Rattle.std.proofs.Common.{ap, ◌∙◌, arith, mul-suc}
 use borrow.Author.Differences.{ints, up, down}
-use Rattle.std.specs.List.{AllByRecursion as All}
+use Rattle.std.specs.List.{AllByRecursion}
 use Rattle.worth.specs.Kinds.{Laws, repeated, Rises, RisesFrom}
 use Rattle.worth.specs.Money.{of_cents, money}
 use Rattle.worth.specs.Weeks.{of_count, weeks}
@@ -37,15 +37,15 @@ z_times : (n : ℕ) (x : ℤ) → x *ℤ pos (suc n) ≡ x +ℤ x *ℤ pos n
 z_times n x = omega (arith, ints, mul-suc (up x) n, mul-suc (down x) n)
 
 -- a row that rises within n on both sides
-row : {M : Type 0} (key : M → ℤ) (n : ℕ) (x : M) (xs : List M) → All (λ y. unsigned_abs (key y) ≤ n) (x ∷ xs) → RisesFrom (λ a b. int_lt (key a) (key b)) x xs → (key x +ℤ pos (length xs)) ≤ℤ pos n
+row : {M : Type 0} (key : M → ℤ) (n : ℕ) (x : M) (xs : List M) → AllByRecursion (λ y. unsigned_abs (key y) ≤ n) (x ∷ xs) → RisesFrom (λ a b. int_lt (key a) (key b)) x xs → (key x +ℤ pos (length xs)) ≤ℤ pos n
 row key n x [] a r = let h : unsigned_abs (key x) ≤ n = a.0 in omega (arith, ints)
 row key n x (y ∷ ys) a r = let ih = row key n y ys a.1 r.1 in let h : int_lt (key x) (key y) ≡ true = r.0 in omega (arith, ints)
 
-integers_rising : {M : Type 0} (key : M → ℤ) (n : ℕ) (xs : List M) → All (λ y. unsigned_abs (key y) ≤ n) xs → Rises (λ a b. int_lt (key a) (key b)) xs → length xs ≤ n + n + 1
+integers_rising : {M : Type 0} (key : M → ℤ) (n : ℕ) (xs : List M) → AllByRecursion (λ y. unsigned_abs (key y) ≤ n) xs → Rises (λ a b. int_lt (key a) (key b)) xs → length xs ≤ n + n + 1
 integers_rising key n [] a r = omega arith
 integers_rising key n (x ∷ xs) a r = let h : unsigned_abs (key x) ≤ n = a.0 in let k = row key n x xs a r in omega (arith, ints)
 
-all_like : {M : Type 0} {P Q : M → Type 0} → ((x : M) → P x → Q x) → (xs : List M) → All P xs → All Q xs
+all_like : {M : Type 0} {P Q : M → Type 0} → ((x : M) → P x → Q x) → (xs : List M) → AllByRecursion P xs → AllByRecursion Q xs
 all_like f [] a = tt
 all_like f (x ∷ xs) a = (f x a.0, all_like f xs a.1)
 

@@ -2,7 +2,7 @@
 use Rattle.std.specs.Prelude.{◌≡◌, ℕ, zero, suc, ◌+◌, ◌≤◌, Bool, true, false, cond, List, [], ◌∷◌, length, ℤ, pos, negsuc, ◌≤ℤ◌}
 use Rattle.std.specs.declared.cmp.Ordering.TheVariants.{Less, Equal, Greater}
 use Rattle.std.specs.declared.cmp.Ordering.{Ordering}
-use Rattle.std.specs.List.{AllByRecursion as All}
+use Rattle.std.specs.List.{AllByRecursion}
 
 -- the operations of a kind whose worths are the values of M; `unit` takes a price and weeks,
 -- and no strictly rising row of worths of size at most 448,000 is longer than `height`
@@ -46,7 +46,7 @@ pub record Laws {M : Type 0} (o : Ops M) : Type 0 where
   pub size_unit : (p : ℤ) (w : ℕ) → negsuc 999999 ≤ℤ p → p ≤ℤ pos 1000000 → w ≤ 1 → o.size (o.unit p w) ≤ 1
   pub size_neg : (x : M) → o.size (o.neg x) ≡ o.size x
   pub size_plus : (x y : M) → o.size (o.plus x y) ≤ o.size x + o.size y
-  pub rising : (xs : List M) → All (λ x. o.size x ≤ 448000) xs → Rises o.less xs → length xs ≤ o.height
+  pub rising : (xs : List M) → AllByRecursion (λ x. o.size x ≤ 448000) xs → Rises o.less xs → length xs ≤ o.height
 
 -- how two worths compare, from the two tests
 abbrev pub ordering : {M : Type 0} → Ops M → M → M → Ordering

@@ -1,7 +1,7 @@
 -- The laws of two kinds piled up.
 use Rattle.std.specs.Prelude.{◌≡◌, ℕ, zero, suc, ◌+◌, ◌*◌, ◌≤◌, max, true, false, ◌⊎◌, List, [], ◌∷◌, length, refl}
 use Rattle.std.proofs.Common.{sym, ap, ap₂, ◌∙◌, inl, inr, arith, mul-suc, mul-le-mul_left, mul_comm}
-use Rattle.std.specs.List.{AllByRecursion as All}
+use Rattle.std.specs.List.{AllByRecursion}
 use Rattle.worth.specs.Kinds.{Ops, Laws, repeated, Rises, RisesFrom}
 use Rattle.worth.specs.Lexicographic.{before, pair, pile}
 use Rattle.worth.specs.Orders.{Tri, below, same, above, tri}
@@ -59,12 +59,12 @@ module _ {F S : Type 0} {a : Ops F} {b : Ops S} (la : Laws a) (lb : Laws b) wher
     seconds : List S
     firsts : List F
     seconds_rise : RisesFrom b.less x.second seconds
-    seconds_small : All (λ s. b.size s ≤ 448000) seconds
+    seconds_small : AllByRecursion (λ s. b.size s ≤ 448000) seconds
     firsts_rise : RisesFrom a.less x.first firsts
-    firsts_small : All (λ f. a.size f ≤ 448000) firsts
+    firsts_small : AllByRecursion (λ f. a.size f ≤ 448000) firsts
     few : suc (length xs) ≤ suc (length seconds) + b.height * length firsts
 
-  counted : (x : Lexicographic F S) (xs : List (Lexicographic F S)) → All (λ y. (pile a b).size y ≤ 448000) (x ∷ xs) → RisesFrom (before a b) x xs → Counted x xs
+  counted : (x : Lexicographic F S) (xs : List (Lexicographic F S)) → AllByRecursion (λ y. (pile a b).size y ≤ 448000) (x ∷ xs) → RisesFrom (before a b) x xs → Counted x xs
   counted x [] w r = record { seconds = []; firsts = []; seconds_rise = tt; seconds_small = tt; firsts_rise = tt; firsts_small = tt; few = omega arith }
   counted x (y ∷ ys) w r = go (counted y ys w.1 r.1) (lex x y r.0)
     where
@@ -86,7 +86,7 @@ module _ {F S : Type 0} {a : Ops F} {b : Ops S} (la : Laws a) (lb : Laws b) wher
         few = omega (arith, c.few);
       }
 
-  rising : (xs : List (Lexicographic F S)) → All (λ y. (pile a b).size y ≤ 448000) xs → Rises (before a b) xs → length xs ≤ a.height * b.height
+  rising : (xs : List (Lexicographic F S)) → AllByRecursion (λ y. (pile a b).size y ≤ 448000) xs → Rises (before a b) xs → length xs ≤ a.height * b.height
   rising [] w r = omega arith
   rising (x ∷ xs) w r =
       let small : max (a.size x.first) (b.size x.second) ≤ 448000 = w.0 in

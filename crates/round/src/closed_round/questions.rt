@@ -12,7 +12,7 @@ use super::super::side::Side;
 use super::ClosedRound;
 use book::line::Line;
 use flow::arc::Arc;
-use network::worth::worth;
+use network::valuation::worth;
 use tables::refusal::Refusal;
 use worth::kind::Worth;
 

@@ -1,5 +1,5 @@
 use Rattle.std.proofs.Common.{◌≡◌, ◌<◌, false, length, sym, refl, ap, ◌∙◌, subst}
-use Rattle.std.specs.List.{AllByRecursion as All}
+use Rattle.std.specs.List.{AllByRecursion}
 use Rattle.std.proofs.lemmas.List.{length-map}
 use Rattle.std.proofs.lemmas.Bool.{both_ways, eqb-true, eq-eqb}
 use Rattle.std.proofs.lemmas.Bool.Decides.{not_from_Decides}
@@ -17,7 +17,7 @@ returns-then-not-is_empty c =
 
 pub returns-then-not-are_zero : goal.returns-then-not-are_zero
 returns-then-not-are_zero c =
-    (λ e. absurd (both_ways false refl e), λ sheet. absurd (not_from_Decides _ c.are_zero.ensures c.if-not-are_zero.true (subst (All (λ u. u ≡ 0)) (sym c.units.ensures) (row_zero (contents c.args.read.now).offers sheet.unfilled))))
+    (λ e. absurd (both_ways false refl e), λ sheet. absurd (not_from_Decides _ c.are_zero.ensures c.if-not-are_zero.true (subst (AllByRecursion (λ u. u ≡ 0)) (sym c.units.ensures) (row_zero (contents c.args.read.now).offers sheet.unfilled))))
 
 pub returns : goal.returns
 returns c =
@@ -27,8 +27,8 @@ returns c =
     let offers = ap (λ b. b.offers) c.terms.ensures in (
       λ t. record {
         unlevelled = sym many ∙ eqb-true (length ls) 0 (sym c.if-not-is_empty.ensures);
-        unfilled = lines_unfilled x.offers (subst (All (λ u. u ≡ 0)) c.units.ensures (c.are_zero.ensures.0 c.if-not-are_zero.false));
-        standing = limits_from x.offers (subst (All (λ o. 0 < o.limit)) offers (c.are_standing.ensures.0 t));
+        unfilled = lines_unfilled x.offers (subst (AllByRecursion (λ u. u ≡ 0)) c.units.ensures (c.are_zero.ensures.0 c.if-not-are_zero.false));
+        standing = limits_from x.offers (subst (AllByRecursion (λ o. 0 < o.limit)) offers (c.are_standing.ensures.0 t));
       },
-      λ sheet. c.are_standing.ensures.1 (subst (All (λ o. 0 < o.limit)) (sym offers) (limits_to x.offers sheet.standing)),
+      λ sheet. c.are_standing.ensures.1 (subst (AllByRecursion (λ o. 0 < o.limit)) (sym offers) (limits_to x.offers sheet.standing)),
     )

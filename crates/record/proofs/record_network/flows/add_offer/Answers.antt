@@ -2,7 +2,7 @@ use Rattle.std.proofs.Common.{◌∷◌, ◌++◌, ap, ◌∙◌}
 use Rattle.tables.specs.Tables.{entries}
 use Rattle.record.proofs.Flowing.{offer_added}
 use Rattle.record.proofs.Giving.{total_fits}
-use Rattle.record.proofs.network.flows.add_offer.Goals as goal
+use Rattle.record.proofs.record_network.flows.add_offer.Goals as goal
 
 pub total-requires : goal.total-requires
 total-requires c = total_fits c.args.offer.give.now c.args.offer.given.now c.requires.moderate

@@ -4,7 +4,7 @@ use Rattle.layout.specs.Records.{offer_of}
 use Rattle.round.specs.Rounds.{book}
 use Rattle.reading.specs.Contents.{contents}
 use Rattle.record.proofs.Showing.{bounded, parts_end, shows}
-use Rattle.record.proofs.network.filled.filled_offer.Goals as goal
+use Rattle.record.proofs.record_network.filled.filled_offer.Goals as goal
 
 pub returns-in_err-offer : goal.returns-in_err-offer
 returns-in_err-offer c =

@@ -1,8 +1,8 @@
 use Rattle.std.proofs.Common.{◌≡◌, length, ap, ◌∙◌, arith}
 use Rattle.network.proofs.Reading.{sound_arc}
 use Rattle.network.proofs.Worths.{value_below, can_add, added}
-use Rattle.network.proofs.worth.worth.Goals as goal
-use Rattle.network.proofs.worth.worth.Goals.{in-Ok, in_default}
+use Rattle.network.proofs.valuation.worth.Goals as goal
+use Rattle.network.proofs.valuation.worth.Goals.{in-Ok, in_default}
 
 pub arc_worth-requires : goal.arc_worth-requires
 arc_worth-requires g c = ((g.N.Network.net c.args.net.now).nodes, sound_arc (g.N.Network.net c.args.net.now) (g.met.N.Network.sound c.args.net.now) c.loop-i.i c.in-Ok.arc c.in-Ok.ensures)

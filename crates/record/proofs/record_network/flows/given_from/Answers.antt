@@ -3,8 +3,8 @@ use Rattle.round.specs.Rounds.{book}
 use Rattle.reading.specs.Contents.{contents}
 use Rattle.record.proofs.Giving.{summed_all, summed_more, sum_fits}
 use Rattle.record.proofs.Showing.{bounded, offers_many}
-use Rattle.record.proofs.network.flows.given_from.Goals as goal
-use Rattle.record.proofs.network.flows.given_from.Goals.{in-Some, in_default}
+use Rattle.record.proofs.record_network.flows.given_from.Goals as goal
+use Rattle.record.proofs.record_network.flows.given_from.Goals.{in-Some, in_default}
 
 pub overflow_add-sum : goal.overflow_add-sum
 overflow_add-sum c =

@@ -5,7 +5,7 @@ use Rattle.reading.specs.Contents.{contents}
 use Rattle.record.specs.Flows.{given_from}
 use Rattle.record.proofs.Flowing.{held_more}
 use Rattle.record.proofs.Showing.{bounded}
-use Rattle.record.proofs.network.flows.holding_flows.Goals as goal
+use Rattle.record.proofs.record_network.flows.holding_flows.Goals as goal
 
 pub loop-h-preserved : goal.loop-h-preserved
 loop-h-preserved c =

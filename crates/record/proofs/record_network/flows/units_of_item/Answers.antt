@@ -2,8 +2,8 @@ use Rattle.std.proofs.Common.{get_or, ap, ◌∙◌, arith}
 use Rattle.std.proofs.lemmas.List.{take_all}
 use Rattle.book.specs.Allotments.{of_item}
 use Rattle.record.proofs.Giving.{item_more, item_same}
-use Rattle.record.proofs.network.flows.units_of_item.Goals as goal
-use Rattle.record.proofs.network.flows.units_of_item.Goals.{then-line-item, else-line-item}
+use Rattle.record.proofs.record_network.flows.units_of_item.Goals as goal
+use Rattle.record.proofs.record_network.flows.units_of_item.Goals.{then-line-item, else-line-item}
 
 pub loop-t-preserved : goal.loop-t-preserved
 loop-t-preserved c =

@@ -3,7 +3,7 @@ use Rattle.std.proofs.lemmas.Result.{err_from_is_err_and}
 use Rattle.round.specs.Rounds.{book}
 use Rattle.reading.specs.Contents.{contents}
 use Rattle.record.proofs.Drawing.{still, long, drawn_not, drawn}
-use Rattle.record.proofs.network.drawing.draw.Goals as goal
+use Rattle.record.proofs.record_network.drawing.draw.Goals as goal
 
 pub fill-requires : goal.fill-requires
 fill-requires g c =

@@ -1,7 +1,7 @@
 use Rattle.std.proofs.Common.{ap, arith, w64, to_z, of_z}
 use Rattle.std.proofs.lemmas.Int.{ints}
 use Rattle.network.proofs.Worths.{product_small}
-use Rattle.network.proofs.worth.arc_worth.Goals as goal
+use Rattle.network.proofs.valuation.arc_worth.Goals as goal
 
 pub times-requires : goal.times-requires
 times-requires g c =

@@ -7,7 +7,7 @@ use Rattle.round.specs.Closed.{closed_net}
 use Rattle.round.specs.Rounds.{book}
 use Rattle.record.specs.Flows.{with_flows}
 use Rattle.record.proofs.Pushing.{filled_none, filled_more, refused_over, none_over}
-use Rattle.record.proofs.network.drawing.fill.Goals as goal
+use Rattle.record.proofs.record_network.drawing.fill.Goals as goal
 
 pub loop-i-init : goal.loop-i-init
 loop-i-init g c = (filled_none (closed_net c.args.round.now) c.requires.empty, refl)

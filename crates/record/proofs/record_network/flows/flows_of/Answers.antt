@@ -4,8 +4,8 @@ use Rattle.round.specs.Rounds.{book}
 use Rattle.reading.specs.Contents.{contents}
 use Rattle.record.proofs.Flowing.{rowed_none, rowed_all, rowed_more, room}
 use Rattle.record.proofs.Showing.{bounded, offers_many}
-use Rattle.record.proofs.network.flows.flows_of.Goals as goal
-use Rattle.record.proofs.network.flows.flows_of.Goals.{in-Some, in_default}
+use Rattle.record.proofs.record_network.flows.flows_of.Goals as goal
+use Rattle.record.proofs.record_network.flows.flows_of.Goals.{in-Some, in_default}
 
 pub loop-k-init : goal.loop-k-init
 loop-k-init c = let r = c.args.record.now in rowed_none (contents r) (bounded r) (entries c.holding_flows-flows.result) c.holding_flows-flows.ensures

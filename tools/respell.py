@@ -1,5 +1,6 @@
 #!/usr/bin/env python3
-"""Respells the repository's own definitions and lemmas: words in snake case, types and facts in camel case.
+"""Respells the repository's own definitions and lemmas: words in snake case, types and facts in camel case. A word of the
+library that was imported under another word of the library is cited under its own name.
 
 usage: python3 tools/respell.py [--dry]      at the top of the repository, once, right after the kit's port.py
 
@@ -102,6 +103,17 @@ def spelt(name):
     return "_".join(words)
 
 
+def plainly(text):
+    """Cites AllByRecursion under its own name, and not under that of the library's All, which goes by index."""
+    if "AllByRecursion as All" not in text:
+        return text
+    lines = text.replace("AllByRecursion as All", "AllByRecursion").split("\n")
+    for i, line in enumerate(lines):
+        if not re.match(r"(ghost )?use |\s*(--|//)", line):
+            lines[i] = re.sub(r"(?<![\w'.-])All(?![\w'-])", "AllByRecursion", line)
+    return "\n".join(lines)
+
+
 def respelt(match, line, new):
     old = match.group(0)
     if old in new and new[old].endswith("_lem") and line[match.start() - 1 : match.start()] == ".":
@@ -152,7 +164,7 @@ def main():
                     parts[i] = TOKEN.sub(lambda m: respelt(m, part, new), part)
                 line = "".join(parts)
             out.append(line)
-        after = "\n".join(out)
+        after = plainly("\n".join(out))
         if after != text:
             with open(path, "w", encoding="utf-8") as f:
                 f.write(after)

@@ -3,9 +3,8 @@ use Rattle.std.proofs.Common.{◌≡◌, ℕ, zero, suc, ◌+◌, ◌<◌, eqb, 
 use mathlib.Core.Path.{fun_ext}
 use Rattle.std.proofs.lemmas.List.{length-append}
 use Rattle.flow.specs.Graphs.{when}
-use Rattle.flow.specs.Arcs.{flow_of}
+use Rattle.flow.specs.Arcs.{flow_of, with_flow}
 use Rattle.flow.specs.declared.arc.Arc.{Arc}
-use Rattle.network.specs.Networks.{with_flow}
 use Rattle.book.specs.Rows.{sum_with, AllWith, map_with}
 use Rattle.book.specs.Books.{Book, Offer, Sound, line_count, no_holding, no_offer}
 use Rattle.book.specs.Allotments.{Allotment, Alike, given_by}

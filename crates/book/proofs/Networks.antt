@@ -3,11 +3,11 @@ use Rattle.std.proofs.Common.{◌≡◌, ℕ, zero, suc, ◌+◌, ◌<◌, ◌�
 use Rattle.worth.specs.Kinds.{Ops}
 use Rattle.flow.specs.Groups.{Kind, times}
 use Rattle.flow.specs.Graphs.{Graph, Circulation, worth, sum_n, when, coming as coming_at, going as going_at}
-use Rattle.flow.specs.Arcs.{arc_at, flow_of, SameArc, SameArcs, net}
+use Rattle.flow.specs.Arcs.{arc_at, flow_of, SameArc, SameArcs, net, with_flow}
 use Rattle.flow.specs.declared.arc.Arc.{Arc}
 use Rattle.flow.proofs.Rows.{net_same}
 use Rattle.flow.proofs.Sums.{total_same}
-use Rattle.network.specs.Networks.{Net, with_flow, flow_in, graph, value}
+use Rattle.network.specs.Networks.{Net, flow_in, graph, value}
 use Rattle.book.specs.Books.{Book}
 use Rattle.book.specs.Arcs.{Flows, laid, nodes, arcs_of, net_of, flowing, NetworkOf}
 use Rattle.book.proofs.Sums.{sum, length_map_with}

@@ -1,8 +1,8 @@
 -- The network of a book, and the flows that an allotment fills it with.
 use Rattle.std.specs.Prelude.{◌≡◌, ℕ, zero, suc, ◌+◌, ◌*◌, cond, List, [], ◌∷◌, ◌++◌, length, get_or, pos, neg_ℤ, Some, None, Option, ◌==◌, slice_index_or}
 use Rattle.flow.specs.declared.arc.Arc.{Arc}
-use Rattle.flow.specs.Arcs.{SameArcs}
-use Rattle.network.specs.Networks.{Net, with_flow}
+use Rattle.flow.specs.Arcs.{SameArcs, with_flow}
+use Rattle.network.specs.Networks.{Net}
 use Rattle.book.specs.Rows.{map_with}
 use Rattle.book.specs.Books.{Book, Offer, spot_of, no_holding, no_offer}
 use Rattle.book.specs.Allotments.{Allotment, all_of, given_by}

@@ -1,5 +1,5 @@
 // What a member holds of an item.
-#[derive(Clone, Copy)]
+#[derive(Clone, Copy, Debug, Default, PartialEq, Eq)]
 pub struct Holding {
     pub member: u32,
     pub item: u32,

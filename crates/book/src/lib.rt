@@ -4,3 +4,4 @@
 pub mod agreement;
 pub mod holding;
 pub mod line;
+pub mod side;

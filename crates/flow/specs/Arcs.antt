@@ -1,5 +1,5 @@
 -- A network as a list of arcs.
-use Rattle.std.specs.Prelude.{◌≡◌, ℕ, ◌<◌, List, length, pos, slice_index_or}
+use Rattle.std.specs.Prelude.{◌≡◌, ℕ, ◌<◌, List, length, ℤ, pos, slice_index_or}
 use Rattle.worth.specs.Kinds.{Ops}
 use Rattle.flow.specs.Graphs.{Graph}
 use Rattle.flow.specs.declared.arc.Arc.{Arc}
@@ -7,6 +7,14 @@ use Rattle.flow.specs.declared.arc.Arc.{Arc}
 -- what a list of arcs is read as past its end
 abbrev pub blank : Arc
 blank = record { from = 0; to = 0; capacity = 0; flow = 0; price = pos 0; weeks = 0 }
+
+-- an arc on which nothing flows
+abbrev pub fresh : ℕ → ℕ → ℕ → ℤ → ℕ → Arc
+fresh from to capacity price weeks = record { from = from; to = to; capacity = capacity; flow = 0; price = price; weeks = weeks }
+
+-- the arc with flow k in place of its own
+abbrev pub with_flow : ℕ → Arc → Arc
+with_flow k a = record { from = a.from; to = a.to; capacity = a.capacity; flow = k; price = a.price; weeks = a.weeks }
 
 -- arc i of a list
 abbrev pub arc_at : List Arc → ℕ → Arc

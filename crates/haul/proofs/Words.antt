@@ -8,7 +8,8 @@ use Rattle.std.specs.Str.Parse.{AllDigits, digits_value, without_leading_sign}
 use Rattle.haul.specs.declared.reading.Fields.{Fields}
 use Rattle.tables.specs.declared.refusal.Refusal.{Refusal}
 use Rattle.network.specs.Networks.{Net}
-use Rattle.haul_table.specs.Roads.{fresh, Roaded}
+use Rattle.flow.specs.Arcs.{fresh}
+use Rattle.haul_table.specs.Roads.{Roaded}
 use Rattle.haul.specs.Lines.{Number, Begins, Written, clamped, arc_of, Taken}
 
 -- no byte is a space

@@ -7,7 +7,8 @@ use Rattle.tables.specs.declared.refusal.Refusal.{Refusal}
 use Rattle.tables.specs.Refusals.{refusal}
 use Rattle.flow.specs.declared.arc.Arc.{Arc}
 use Rattle.network.specs.Networks.{Net}
-use Rattle.haul_table.specs.Roads.{fresh, Roaded}
+use Rattle.flow.specs.Arcs.{fresh}
+use Rattle.haul_table.specs.Roads.{Roaded}
 use Rattle.haul.specs.declared.reading.Fields.{Fields}
 use Rattle.haul.specs.declared.writing.Line.{Line}
 use Rattle.haul.specs.declared.writing.Line.TheVariants.{Leg, Money, Weeks, Level, Refused}

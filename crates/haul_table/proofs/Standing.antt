@@ -5,7 +5,7 @@ use Rattle.std.proofs.lemmas.Bool.{cases_lt}
 use Rattle.tables.specs.declared.refusal.Refusal.{Refusal}
 use Rattle.worth.specs.Kinds.{Ops, Laws}
 use Rattle.flow.specs.declared.arc.Arc.{Arc}
-use Rattle.flow.specs.Arcs.{arc_at, blank}
+use Rattle.flow.specs.Arcs.{arc_at, blank, fresh}
 use Rattle.flow.specs.Graphs.{Circulation, sum_n, when, coming, going}
 use Rattle.flow.specs.Groups.{kind, total, times}
 use Rattle.flow.proofs.Group.{unit_right}
@@ -13,7 +13,7 @@ use Rattle.flow.proofs.Sums.{sum_n_same, total_same}
 use Rattle.network.specs.Networks.{Net, SoundArc, flow_in, graph, value}
 use Rattle.search.proofs.Standing.{So, idle_so, improved_so, cleared_so, so_standing}
 use Rattle.haul_table.proofs.Admitting.{admitted}
-use Rattle.haul_table.specs.Roads.{empty, fresh, with_arc, Roaded}
+use Rattle.haul_table.specs.Roads.{empty, with_arc, Roaded}
 use Rattle.haul_table.specs.Uses.{Use, made, roaded, improved, cleared, Law}
 
 sum_n_more : (k n : ℕ) (f g : ℕ → ℕ) → k ≡ n + 1 → ((i : ℕ) → i < n → f i ≡ g i) → f n ≡ 0 → sum_n k f ≡ sum_n n g

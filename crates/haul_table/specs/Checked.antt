@@ -7,8 +7,8 @@ use Rattle.std.proofs.lemmas.Bool.Decides.{nat_tests}
 use Rattle.tables.specs.declared.refusal.Refusal.{Refusal}
 use Rattle.tables.specs.Tables.{Found, Added, Replaced}
 use Rattle.flow.specs.declared.arc.Arc.{Arc}
-use Rattle.flow.specs.Arcs.{arc_at, blank}
-use Rattle.network.specs.Networks.{SoundArc, with_flow}
+use Rattle.flow.specs.Arcs.{arc_at, blank, with_flow}
+use Rattle.network.specs.Networks.{SoundArc}
 use Rattle.haul_table.specs.Bounds.{arc_sound, all_sound}
 
 pub sound_yes : (n : ℕ) (a : Arc) → SoundArc n a → arc_sound n a ≡ true

@@ -6,13 +6,13 @@ use mathlib.Core.HLevel.{is_prop→PathP}
 use Rattle.std.proofs.lemmas.Int.{ints}
 use Rattle.tables.specs.declared.refusal.Refusal.{Refusal}
 use Rattle.tables.specs.Refusals.{refusal}
-use Rattle.tables.specs.Tables.{entries, Replaced}
-use Rattle.tables.proofs.Entries.{same_table, replaced}
+use Rattle.tables.specs.Tables.{Replaced}
+use Rattle.tables.proofs.Entries.{replaced}
 use Rattle.tables.proofs.Firsts.{next}
 use Rattle.flow.specs.declared.arc.Arc.{Arc}
-use Rattle.flow.specs.Arcs.{arc_at, SameArcs}
+use Rattle.flow.specs.Arcs.{arc_at, SameArcs, with_flow}
 use Rattle.flow.proofs.Rows.{pushed_same}
-use Rattle.network.specs.Networks.{Net, with_flow}
+use Rattle.network.specs.Networks.{Net}
 use Rattle.network.specs.Pushes.{Pushed, moved}
 use Rattle.haul_table.specs.Bounds.{all_sound}
 use Rattle.haul_table.specs.Roads.{hauled, Alike}
@@ -28,15 +28,15 @@ same_trans ls ms ks p q = record {
 }
 
 pub alike_itself : {W : Type 0} (x : HaulTable W) → Alike x x
-alike_itself x = record { arcs = same_refl (entries x.arcs); rest = refl }
+alike_itself x = record { arcs = same_refl x.arcs }
 
 pub alike_onward : {W : Type 0} (x y z : HaulTable W) → Alike x y → Alike y z → Alike x z
-alike_onward x y z p q = record { arcs = same_trans (entries x.arcs) (entries y.arcs) (entries z.arcs) p.arcs q.arcs; rest = p.rest ∙ q.rest }
+alike_onward x y z p q = record { arcs = same_trans x.arcs y.arcs z.arcs p.arcs q.arcs }
 
 pub alike_settled : {W : Type 0} (x y : HaulTable W) → Alike x y → hauled x ≡ hauled y → x ≡ y
 alike_settled x y a e =
-    let p : x.arcs ≡ y.arcs = same_table x.arcs y.arcs (ap (λ n. n.arcs) e) a.rest in
-    λ i. record { arcs = p i; kind = x.kind; sound = is_prop→PathP (λ j. all_sound 64 (entries (p j)) ≡ true) (λ j. Bool-set (all_sound 64 (entries (p j))) true) x.sound y.sound i }
+    let p : x.arcs ≡ y.arcs = ap (λ n. n.arcs) e in
+    λ i. record { arcs = p i; kind = x.kind; sound = is_prop→PathP (λ j. all_sound 64 (p j) ≡ true) (λ j. Bool-set (all_sound 64 (p j)) true) x.sound y.sound i }
 
 negative : (k : ℕ) → pos k <ℤ pos 0 → ⊥
 negative k p = omega (arith, ints)

@@ -2,7 +2,6 @@
 use Rattle.std.specs.Prelude.{◌≡◌, ℕ, ◌<◌, ◌≤◌, ◌⊎◌, List, [], ◌∷◌, ◌++◌, length, ℤ, pos, negsuc, ◌<ℤ◌, Result, MatchResult}
 use Rattle.tables.specs.declared.refusal.Refusal.{Refusal}
 use Rattle.tables.specs.Refusals.{Row, when, First, refusal}
-use Rattle.tables.specs.Tables.{entries, unused}
 use Rattle.flow.specs.declared.arc.Arc.{Arc}
 use Rattle.flow.specs.Arcs.{SameArcs}
 use Rattle.network.specs.Networks.{Net}
@@ -10,15 +9,11 @@ use Rattle.haul_table.specs.declared.table.HaulTable.{HaulTable}
 
 -- 64 nodes and the arcs in the order of their numbers
 abbrev pub hauled : {W : Type 0} → HaulTable W → Net
-hauled t = record { nodes = 64; arcs = entries t.arcs }
+hauled t = record { nodes = 64; arcs = t.arcs }
 
 -- a table as it is made
 abbrev pub empty : Net
 empty = record { nodes = 64; arcs = [] }
-
--- an arc on which nothing flows
-abbrev pub fresh : ℕ → ℕ → ℕ → ℤ → ℕ → Arc
-fresh from to capacity price weeks = record { from = from; to = to; capacity = capacity; flow = 0; price = price; weeks = weeks }
 
 -- the network with one more arc, the last
 abbrev pub with_arc : Net → Arc → Net
@@ -38,7 +33,6 @@ pub record Roaded (before after : Net) (a : Arc) (r : Result ℕ Refusal) : Type
   pub refused : First (road_rows before.nodes (length before.arcs) a) (refusal r)
   pub outcome : MatchResult r (λ number. (number ≡ length before.arcs) × (after ≡ with_arc before a)) (λ _. after ≡ before)
 
--- the same but for flows, in the cells past the arcs too
+-- the same but for flows
 pub record Alike {W : Type 0} (x y : HaulTable W) : Type 0 where
-  pub arcs : SameArcs (entries x.arcs) (entries y.arcs)
-  pub rest : unused x.arcs ≡ unused y.arcs
+  pub arcs : SameArcs x.arcs y.arcs

@@ -1,5 +1,4 @@
 ghost use Rattle.std.specs.Prelude.{◌≡◌, true};
-ghost use Rattle.tables.specs.Tables.{entries};
 ghost use Rattle.haul_table.specs.Bounds.{all_sound};
 
 use flow::arc::Arc;
@@ -14,5 +13,5 @@ mod calls;
 pub struct HaulTable<W> {
     arcs: Table<Arc, 256>,
     kind: PhantomData<W>,
-    ghost sound: { all_sound 64 (entries arcs) ≡ true },
+    ghost sound: { all_sound 64 arcs ≡ true },
 }

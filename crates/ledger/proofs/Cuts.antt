@@ -8,8 +8,8 @@ use Rattle.std.proofs.lemmas.Str.Parse.{IsNumeralModel, numerals_by_value, tells
 use Rattle.std.proofs.lemmas.Bool.{cases_lt}
 use Rattle.std.proofs.lemmas.Bool.Decides.{nat_tests}
 use Rattle.ledger.specs.Spellings.{side_word, sort_word, Number, NumberFirst, Without, Spells}
-use Rattle.ledger.specs.declared.trade.Side.{Side}
-use Rattle.ledger.specs.declared.trade.Side.TheVariants.{Give, Get}
+use Rattle.book.specs.declared.side.Side.{Side}
+use Rattle.book.specs.declared.side.Side.TheVariants.{Give, Get}
 use Rattle.ledger.specs.declared.trade.Trade.{Trade}
 
 -- a row cut at its byte i, as `&row[0..i]` and `&row[i + 1..]` have it

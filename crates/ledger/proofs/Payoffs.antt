@@ -10,8 +10,8 @@ use Rattle.worth.specs.Lexicographic.{pile, pair}
 use Rattle.worth.specs.Money.{money}
 use Rattle.worth.specs.Weeks.{weeks}
 use Rattle.ledger.specs.Trades.{sound, all_sound, unit_price, unit_weeks, line_worth, worth_of, on, weeks_got, balance, lines_of, payoff_of, payoffs_below}
-use Rattle.ledger.specs.declared.trade.Side.{Side}
-use Rattle.ledger.specs.declared.trade.Side.TheVariants.{Give, Get}
+use Rattle.book.specs.declared.side.Side.{Side}
+use Rattle.book.specs.declared.side.Side.TheVariants.{Give, Get}
 use Rattle.ledger.specs.declared.trade.Trade.{Trade}
 use Rattle.ledger.proofs.Sums.{bounded, each_sound}
 

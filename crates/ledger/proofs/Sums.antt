@@ -16,8 +16,8 @@ use Rattle.tables.proofs.Entries.{length_entries}
 use Rattle.ledger.specs.Ledgers.{listed}
 use Rattle.ledger.specs.Trades.{sound, all_sound, unit_price, unit_weeks, line_worth, lines_of}
 use Rattle.ledger.specs.declared.ledger.Ledger.{Ledger}
-use Rattle.ledger.specs.declared.trade.Side.{Side}
-use Rattle.ledger.specs.declared.trade.Side.TheVariants.{Give, Get}
+use Rattle.book.specs.declared.side.Side.{Side}
+use Rattle.book.specs.declared.side.Side.TheVariants.{Give, Get}
 use Rattle.ledger.specs.declared.trade.Trade.{Trade}
 
 -- the bounds of a sound line

@@ -1,7 +1,7 @@
 -- How a trade is spelt on a line: OFFER give|get PRICE UNITS cash|week.
 use Rattle.std.specs.Prelude.{◌≡◌, ℕ, ◌^◌, ◌<◌, Bool, true, false, List, ◌∷◌, ◌++◌, length, codes, decimal, ◌≢◌, slice_index}
-use Rattle.ledger.specs.declared.trade.Side.{Side}
-use Rattle.ledger.specs.declared.trade.Side.TheVariants.{Give, Get}
+use Rattle.book.specs.declared.side.Side.{Side}
+use Rattle.book.specs.declared.side.Side.TheVariants.{Give, Get}
 use Rattle.ledger.specs.declared.trade.Trade.{Trade}
 
 -- the word of a side

@@ -1,8 +1,8 @@
 -- What a traded line is worth, and what the lines of an offer come to.
 use Rattle.std.specs.Prelude.{ℕ, zero, suc, ◌+◌, ◌*◌, Bool, true, false, cond, ◌&&◌, List, [], ◌∷◌, map, ℤ, pos, ◌+ℤ◌, ◌-ℤ◌, neg_ℤ, filter, nat_eq, nat_le, nat_lt}
 use Rattle.worth.specs.Kinds.{Ops, total}
-use Rattle.ledger.specs.declared.trade.Side.{Side}
-use Rattle.ledger.specs.declared.trade.Side.TheVariants.{Give, Get}
+use Rattle.book.specs.declared.side.Side.{Side}
+use Rattle.book.specs.declared.side.Side.TheVariants.{Give, Get}
 use Rattle.ledger.specs.declared.trade.Trade.{Trade}
 
 -- within the bounds of the exchange: offers 0 to 63, up to 1,000 units, prices up to 1,000,000

@@ -1,5 +1,4 @@
 ghost use Rattle.std.specs.Prelude.{◌≡◌, true};
-ghost use Rattle.tables.specs.Tables.{entries};
 ghost use Rattle.ledger.specs.Trades.{all_sound};
 
 use super::trade::Trade;
@@ -11,5 +10,5 @@ mod calls;
 #[derive(Drop)]
 pub struct Ledger {
     trades: Table<Trade, 256>,
-    ghost sound: { all_sound (entries trades) ≡ true },
+    ghost sound: { all_sound trades ≡ true },
 }

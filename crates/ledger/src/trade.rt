@@ -1,13 +1,8 @@
 ghost use Rattle.std.specs.Prelude.{◌≡◌, ◌≤◌, true};
 ghost use Rattle.ledger.specs.Trades.{sound, unit_price, unit_weeks, line_worth};
 
+use book::side::Side;
 use worth::kind::Worth;
-
-#[derive(Clone, Copy)]
-pub enum Side {
-    Give,
-    Get,
-}
 
 // One traded line: units of an item that an offer gives or gets, at a price in cents for each.
 #[derive(Clone, Copy)]

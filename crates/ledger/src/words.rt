@@ -1,9 +1,9 @@
 ghost use Rattle.std.specs.Prelude.{◌≡◌, ℕ, Bool, List, ◌∷◌, ◌++◌, MatchOption, MatchResult, ◌≢◌};
 ghost use Rattle.tables.specs.declared.refusal.Refusal.TheVariants.{Layout as Departs};
 ghost use Rattle.ledger.specs.Spellings.{side_word, sort_word, Number, NumberFirst, Without};
-ghost use Rattle.ledger.specs.declared.trade.Side.{Side as Sides};
+ghost use Rattle.book.specs.declared.side.Side.{Side as Sides};
 
-use super::trade::Side;
+use book::side::Side;
 use tables::refusal::Refusal;
 
 // The bytes before the first `mark` and those after it, or nothing where there is none.

@@ -1,7 +1,7 @@
 use book::line::Line;
 use round::closed_round::ClosedRound;
 use round::open_round::OpenRound;
-use round::side::Side;
+use book::side::Side;
 use tables::refusal::Refusal;
 use worth::money::Money;
 

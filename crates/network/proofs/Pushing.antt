@@ -7,8 +7,8 @@ use Rattle.tables.specs.Tables.{Replaced}
 use Rattle.tables.proofs.Entries.{replaced}
 use Rattle.tables.proofs.Firsts.{next}
 use Rattle.flow.specs.declared.arc.Arc.{Arc}
-use Rattle.flow.specs.Arcs.{arc_at}
-use Rattle.network.specs.Networks.{Net, with_flow}
+use Rattle.flow.specs.Arcs.{arc_at, with_flow}
+use Rattle.network.specs.Networks.{Net}
 use Rattle.network.specs.Pushes.{moved, ArcsPushed}
 
 negative : (k : ℕ) → pos k <ℤ pos 0 → ⊥

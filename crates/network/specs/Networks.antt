@@ -31,10 +31,6 @@ pub record Sound (n : Net) : Type 0 where
 abbrev pub flow_in : Net → ℕ → ℕ
 flow_in n = flow_of n.arcs
 
--- the arc with flow k in place of its own
-abbrev pub with_flow : ℕ → Arc → Arc
-with_flow k a = record { from = a.from; to = a.to; capacity = a.capacity; flow = k; price = a.price; weeks = a.weeks }
-
 -- the network with flow k on arc i, and all else as it was
 abbrev pub put_flow : Net → ℕ → ℕ → Net
 put_flow n i k = record { nodes = n.nodes; arcs = slice_set n.arcs i (with_flow k (arc_at n.arcs i)) }

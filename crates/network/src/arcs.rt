@@ -1,6 +1,4 @@
 ghost use Rattle.std.specs.Prelude.{◌≡◌, ◌≤◌, ◌⊎◌, pos, ◌+ℤ◌, ◌<ℤ◌, MatchOption};
-ghost use Rattle.tables.specs.Tables.{entries, unused};
-ghost use Rattle.network.specs.Networks.{with_flow};
 ghost use Rattle.network.specs.Pushes.{ArcsPushed};
 
 use flow::arc::Arc;
@@ -23,16 +21,9 @@ fn pushed_flow(flow: u32, capacity: u32, by: i64) -> Option<u32>
     }
 }
 
-fn with_flow(arc: Arc, flow: u32) -> Arc
-    ensures { result ≡ with_flow flow arc }
-{
-    Arc { flow, ..arc }
-}
-
 // What push does for a network that keeps its arcs in a table.
 pub fn push<const N: usize>(arcs: &mut Table<Arc, N>, arc: u32, by: i64) -> Result<(), Refusal>
-    ensures outcome { ArcsPushed (entries arcs.old) (entries arcs.new) arc by result }
-    ensures kept { unused arcs.new ≡ unused arcs.old }
+    ensures { ArcsPushed arcs.old arcs.new arc by result }
 {
     let i = arc as usize;
     let Some(found) = arcs.get(i) else {
@@ -41,5 +32,5 @@ pub fn push<const N: usize>(arcs: &mut Table<Arc, N>, arc: u32, by: i64) -> Resu
     let Some(flow) = pushed_flow(found.flow, found.capacity, by) else {
         return Err(Refusal::Rule);
     };
-    arcs.set(i, with_flow(found, flow))
+    arcs.set(i, found.with_flow(flow))
 }

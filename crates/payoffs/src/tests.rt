@@ -1,6 +1,7 @@
 use ledger::ledger::Ledger;
 use ledger::reading::read_ledger;
-use ledger::trade::{Side, Trade};
+use book::side::Side;
+use ledger::trade::Trade;
 use std::test::Fail;
 
 fn damage_of(text: &[u8]) -> Option<(u32, u32)> {

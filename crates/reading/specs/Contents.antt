@@ -1,7 +1,6 @@
 -- The contents of a record that was read, and what reading a text comes to.
 use Rattle.std.specs.Prelude.{ℕ, List, Result, MatchResult}
 use Rattle.tables.specs.Refusals.{number}
-use Rattle.tables.specs.Tables.{entries}
 use Rattle.text.specs.declared.fault.Fault.{Fault}
 use Rattle.layout.specs.Records.{Contents}
 use Rattle.layout.specs.Runs.{Reads, Refused, OneOutcome, SomeOutcome}
@@ -11,7 +10,7 @@ use Rattle.reading.specs.Held.{held}
 use Rattle.reading.specs.declared.record.Record.{Record}
 
 abbrev pub contents : Record → Contents
-contents r = held r.kind (book r.round) (entries r.units) (entries r.levels)
+contents r = held r.kind (book r.round) r.units r.levels
 
 -- the text reads as the contents of the record; or it is refused with this number at this line
 abbrev pub Reading : List ℕ → Result Record Fault → Type 0

@@ -1,5 +1,4 @@
 ghost use Rattle.std.specs.Prelude.{◌≡◌, ◌≤◌, List, ◌∷◌, ◌++◌, map, length, replicate, IfOk, MatchResult, nat_le};
-ghost use Rattle.tables.specs.Tables.{entries};
 ghost use Rattle.text.specs.Numbers.{signed};
 ghost use Rattle.text.specs.Rows.{SpellsRow};
 ghost use Rattle.text.specs.declared.section.Section.TheVariants.{Levels as LevelsSection};
@@ -98,7 +97,7 @@ fn next_level_count(reader: &mut Reader<'_>, nodes: u32) -> Result<u64, Fault>
 // So many lines under L, for which a table has room.
 fn next_levels(reader: &mut Reader<'_>, kind: Kind, n: u64) -> Result<Table<Level, 272>, Fault>
     requires { n ≤ 272 }
-    ensures { (x : Contents) (due : List Slot) → x.kind ≡ kind_as kind → length x.levels ≡ 0 → MatchResult result (λ ls. Onward (replicate n a_level ++ due) x reader.old due (with_levels x (map (numbers (kind_as kind)) (entries ls))) reader.new) (λ f. Stops (replicate n a_level ++ due) x reader.old f) }
+    ensures { (x : Contents) (due : List Slot) → x.kind ≡ kind_as kind → length x.levels ≡ 0 → MatchResult result (λ ls. Onward (replicate n a_level ++ due) x reader.old due (with_levels x (map (numbers (kind_as kind)) ls)) reader.new) (λ f. Stops (replicate n a_level ++ due) x reader.old f) }
 {
     let mut levels = Table::new(Level { cents: 0, weeks: 0 });
     for _ in 0..n {
@@ -115,7 +114,7 @@ pub(crate) fn read_levels(
     nodes: u32,
 ) -> Result<Table<Level, 272>, Fault>
     requires { nodes ≤ 272 }
-    ensures { (x : Contents) (due : List Slot) → x.kind ≡ kind_as kind → node_count (book_of x) ≡ nodes → length x.levels ≡ 0 → MatchResult result (λ ls. Onward (head LevelsSection ∷ due) x reader.old due (with_levels x (map (numbers (kind_as kind)) (entries ls))) reader.new) (λ f. Stops (head LevelsSection ∷ due) x reader.old f) }
+    ensures { (x : Contents) (due : List Slot) → x.kind ≡ kind_as kind → node_count (book_of x) ≡ nodes → length x.levels ≡ 0 → MatchResult result (λ ls. Onward (head LevelsSection ∷ due) x reader.old due (with_levels x (map (numbers (kind_as kind)) ls)) reader.new) (λ f. Stops (head LevelsSection ∷ due) x reader.old f) }
 {
     let n = next_level_count(reader, nodes)?;
     next_levels(reader, kind, n)

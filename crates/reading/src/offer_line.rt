@@ -1,6 +1,5 @@
 ghost use Rattle.std.specs.Prelude.{◌≡◌, ◌+◌, ◌<◌, ◌≤◌, List, [], ◌∷◌, ◌++◌, map, length, IfOk, MatchResult};
 ghost use Rattle.tables.specs.Refusals.{when, First, refusal};
-ghost use Rattle.tables.specs.Tables.{entries};
 ghost use Rattle.book.specs.Books.{Loop};
 ghost use Rattle.layout.specs.Layout.{HeadOfOffer, line_rules};
 ghost use Rattle.layout.specs.Records.{Contents, LineWithUnits, line_of};
@@ -76,7 +75,7 @@ fn next_line(
 }
 
 fn no_lines() -> Table<Line, 256>
-    ensures { entries result ≡ [] }
+    ensures { result ≡ [] }
 {
     Table::new(Line {
         item: 0,
@@ -93,8 +92,8 @@ pub(crate) fn next_lines(
     n: u32,
     units: &mut Table<u32, 256>,
 ) -> Result<Table<Line, 256>, Fault>
-    requires { length (entries units.old) + n ≤ 256 }
-    ensures { MatchResult result (λ lines. LinesRead items give.now n 0 (entries lines) (entries units.old) (entries units.new) reader.old reader.new) (λ f. LinesStop items give.now n reader.old f) }
+    requires { length units.old + n ≤ 256 }
+    ensures { MatchResult result (λ lines. LinesRead items give.now n 0 lines units.old units.new reader.old reader.new) (λ f. LinesStop items give.now n reader.old f) }
 {
     let mut lines = no_lines();
     for _ in 0..n {

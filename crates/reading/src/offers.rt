@@ -1,5 +1,4 @@
 ghost use Rattle.std.specs.Prelude.{◌≡◌, ◌+◌, ◌<◌, ◌≤◌, List, [], ◌∷◌, ◌++◌, length, replicate, MatchResult};
-ghost use Rattle.tables.specs.Tables.{entries};
 ghost use Rattle.text.specs.declared.section.Section.TheVariants.{Offers as OffersSection};
 ghost use Rattle.layout.specs.Layout.{Slot, head as the_head, offer};
 ghost use Rattle.layout.specs.Records.{Contents, book_of};
@@ -48,7 +47,7 @@ fn next_offer(
     round: &mut OpenRound,
     units: &mut Table<u32, 256>,
 ) -> Result<(), Fault>
-    ensures { (x : Contents) → book_of x ≡ book round.old → units_in x.offers ≡ entries units.old → length x.offers < 64 → MatchResult result (λ _. OfferRead x reader.old reader.new (book round.new) (entries units.new)) (λ f. (due : List Slot) → Stops (offer ∷ due) x reader.old f) }
+    ensures { (x : Contents) → book_of x ≡ book round.old → units_in x.offers ≡ units.old → length x.offers < 64 → MatchResult result (λ _. OfferRead x reader.old reader.new (book round.new) units.new) (λ f. (due : List Slot) → Stops (offer ∷ due) x reader.old f) }
 {
     let items = item_count(round);
     let head = next_offer_head(reader, member_count(round), units.len())?;
@@ -65,7 +64,7 @@ fn next_offers(
     units: &mut Table<u32, 256>,
     n: u64,
 ) -> Result<(), Fault>
-    ensures { (x : Contents) (due : List Slot) → book_of x ≡ book round.old → units_in x.offers ≡ entries units.old → length x.offers + n ≤ 64 → MatchResult result (λ _. OffersGained (replicate n offer ++ due) x reader.old due reader.new (book round.new) (entries units.new)) (λ f. Stops (replicate n offer ++ due) x reader.old f) }
+    ensures { (x : Contents) (due : List Slot) → book_of x ≡ book round.old → units_in x.offers ≡ units.old → length x.offers + n ≤ 64 → MatchResult result (λ _. OffersGained (replicate n offer ++ due) x reader.old due reader.new (book round.new) units.new) (λ f. Stops (replicate n offer ++ due) x reader.old f) }
 {
     for _ in 0..n {
         next_offer(reader, round, units)?;
@@ -79,7 +78,7 @@ pub(crate) fn read_offers(
     round: &mut OpenRound,
     units: &mut Table<u32, 256>,
 ) -> Result<(), Fault>
-    ensures { (x : Contents) (due : List Slot) → book_of x ≡ book round.old → length x.offers ≡ 0 → entries units.old ≡ [] → MatchResult result (λ _. OffersGained (the_head OffersSection ∷ due) x reader.old due reader.new (book round.new) (entries units.new)) (λ f. Stops (the_head OffersSection ∷ due) x reader.old f) }
+    ensures { (x : Contents) (due : List Slot) → book_of x ≡ book round.old → length x.offers ≡ 0 → units.old ≡ [] → MatchResult result (λ _. OffersGained (the_head OffersSection ∷ due) x reader.old due reader.new (book round.new) units.new) (λ f. Stops (the_head OffersSection ∷ due) x reader.old f) }
 {
     let n = next_count(reader, Section::Offers, 0, 64)?;
     next_offers(reader, round, units, n)

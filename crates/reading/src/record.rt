@@ -1,5 +1,4 @@
 ghost use Rattle.std.specs.Prelude.{◌≡◌, length};
-ghost use Rattle.tables.specs.Tables.{entries};
 ghost use Rattle.book.specs.Books.{line_count};
 ghost use Rattle.layout.specs.Records.{Valid};
 ghost use Rattle.round.specs.Rounds.{book};
@@ -20,6 +19,6 @@ pub struct Record {
     round: OpenRound,
     units: Table<u32, 256>,
     levels: Table<Level, 272>,
-    ghost valid: { ∥ Valid (held kind (book round) (entries units) (entries levels)) ∥₁ },
-    ghost counted: { length (entries units) ≡ line_count (book round).offers },
+    ghost valid: { ∥ Valid (held kind (book round) units levels) ∥₁ },
+    ghost counted: { length units ≡ line_count (book round).offers },
 }

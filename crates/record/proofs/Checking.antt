@@ -4,7 +4,6 @@ use mathlib.Core.Logic.{∥∥₁_elim}
 use native.Mathlib.Bridge.{le_prop}
 use Rattle.std.proofs.lemmas.List.{take_more, length-take-le}
 use Rattle.std.proofs.lemmas.Bool.{cases_lt, cases_eq}
-use Rattle.tables.specs.Tables.{entries}
 use Rattle.tables.specs.declared.table.Table.{Table}
 use Rattle.worth.specs.Kinds.{Ops}
 use Rattle.worth.specs.Money.{money}
@@ -132,5 +131,5 @@ fails text x e r f = record { contents = x; reads = r; first = f; line = refl }
 
 module _ {W : Type 0} {o : Ops W} (text : List ℕ) (x : Contents) (k : Kind) (told : x.kind ≡ k) (total : W → Total) (is : (n : Net) → total (value o n) ≡ total_by k n) where
   -- what a text that passes is answered with
-  pub passed : (w : W) (offers : Table OfferResult 64) → Reads text x → Shown o x w (entries offers) → (y : Contents) × Passes text y × Answered y (record { worth = total w; offers = offers })
+  pub passed : (w : W) (offers : Table OfferResult 64) → Reads text x → Shown o x w offers → (y : Contents) × Passes text y × Answered y (record { worth = total w; offers = offers })
   passed w offers r s = (x, record { reads = r; allowed = s.allowed; fits = s.fits }, record { worth = ap total s.worth_is ∙ is (network_of x) ∙ (λ i. total_by (sym told i) (network_of x)); offers = s.results_are })

@@ -19,8 +19,8 @@ use Rattle.layout.specs.Render.{head_of, offers_lines}
 use Rattle.round.specs.Closed.{closed_book}
 use Rattle.round.specs.Questions.{lines_on, units_on, offer_at, AnswersUnits}
 use Rattle.round.specs.declared.closed_round.ClosedRound.{ClosedRound}
-use Rattle.round.specs.declared.side.Side.{Side}
-use Rattle.round.specs.declared.side.Side.TheVariants.{Give, Get}
+use Rattle.book.specs.declared.side.Side.{Side}
+use Rattle.book.specs.declared.side.Side.TheVariants.{Give, Get}
 use Rattle.record.specs.Writing.{Adds, side_lines}
 use Rattle.record.proofs.Adding.{adds_same, adds_then}
 

@@ -3,7 +3,6 @@ use Rattle.std.specs.Prelude.{◌≡◌, ℕ, ◌⊎◌, List, [], ◌∷◌, If
 use Rattle.tables.specs.Refusals.{Row, when, First, number, refusal}
 use Rattle.tables.specs.declared.refusal.Refusal.{Refusal}
 use Rattle.tables.specs.declared.table.Table.{Table}
-use Rattle.tables.specs.Tables.{entries}
 use Rattle.text.specs.declared.fault.Fault.{Fault}
 use Rattle.worth.specs.Kinds.{Ops}
 use Rattle.worth.specs.Money.{money}
@@ -33,7 +32,7 @@ result_of o u = record { payoff = payoff o u; weeks = weeks_of o u }
 -- of a record that passes: its worth, and each offer's payoff and weeks got
 pub record Answered (x : Contents) (p : Passed) : Type 0 where
   pub worth : p.worth ≡ total_by x.kind (network_of x)
-  pub offers : entries p.offers ≡ map_with result_of (book_of x).offers (allotted x)
+  pub offers : p.offers ≡ map_with result_of (book_of x).offers (allotted x)
 
 -- when contents fail that were read: their allotment breaks a rule (15), or else their levels do not fit (11)
 abbrev pub failing : Contents → List Row
@@ -49,7 +48,7 @@ pub record Shown {W : Type 0} (o : Ops W) (x : Contents) (worth : W) (results : 
 -- the contents tested by a kind: that, or why they fail
 pub record Tested {W : Type 0} (o : Ops W) (x : Contents) (r : Result (W × Table OfferResult 64) Refusal) : Type 0 where
   pub refused : First (failing x) (refusal r)
-  pub outcome : IfOk r (λ p. Shown o x p.0 (entries p.1))
+  pub outcome : IfOk r (λ p. Shown o x p.0 p.1)
 
 -- the text reads, but fails; no line is to blame
 pub record Fails (text : List ℕ) (f : Fault) : Type 0 where

@@ -1,5 +1,4 @@
 ghost use Rattle.std.specs.Prelude.{◌≡◌, ◌≤◌, map, length};
-ghost use Rattle.tables.specs.Tables.{entries};
 ghost use Rattle.book.specs.Rows.{map_with};
 ghost use Rattle.layout.specs.Records.{Valid};
 ghost use Rattle.reading.specs.Contents.{contents};
@@ -27,7 +26,7 @@ use worth::weeks::Weeks;
 
 // The worths that levels stand for.
 fn worths<W: Levelled>(levels: &[Level]) -> Table<W, 272>
-    ensures { length levels.now ≤ 272 → map (λ w. numbers W.Levelled.sort (W.Levelled.level w)) (entries result) ≡ map (numbers W.Levelled.sort) levels.now }
+    ensures { length levels.now ≤ 272 → map (λ w. numbers W.Levelled.sort (W.Levelled.level w)) result ≡ map (numbers W.Levelled.sort) levels.now }
 {
     let mut worths = Table::new(W::none());
     for l in levels {
@@ -47,7 +46,7 @@ fn result(answer: (i64, u32)) -> OfferResult
 
 // Each offer's payoff and weeks got.
 fn results<W: Worth>(round: &ClosedRound<W>) -> Table<OfferResult, 64>
-    ensures { entries result ≡ map_with result_of (closed_book round.now).offers (closed_allotment round.now) }
+    ensures { result ≡ map_with result_of (closed_book round.now).offers (closed_allotment round.now) }
 {
     let mut results = Table::new(OfferResult {
         payoff: 0,

@@ -7,7 +7,6 @@ use Rattle.std.specs.List.{AllByRecursion}
 use Rattle.std.proofs.lemmas.List.{length-map, length-drop, length-take-le, get_or-take, get_or-drop}
 use Rattle.std.proofs.ByRecursion.{All-get_or}
 use Rattle.std.proofs.lemmas.Bool.{and_parts, eqb-true, eq-eqb, ne_eqb, cond-true, cond-false}
-use Rattle.tables.specs.Tables.{entries}
 use Rattle.tables.proofs.Entries.{length_entries}
 use Rattle.flow.specs.declared.arc.Arc.{Arc}
 use Rattle.flow.specs.Arcs.{blank, flow_of}
@@ -24,8 +23,8 @@ use Rattle.round.specs.Closed.{closed_book, closed_allotment}
 use Rattle.round.specs.Questions.{weeks_on, lines_on, units_on, offer_at, Moderate, Sided}
 use Rattle.round.specs.declared.entry.Entry.{Entry}
 use Rattle.round.specs.declared.closed_round.ClosedRound.{ClosedRound}
-use Rattle.round.specs.declared.side.Side.{Side}
-use Rattle.round.specs.declared.side.Side.TheVariants.{Give, Get}
+use Rattle.book.specs.declared.side.Side.{Side}
+use Rattle.book.specs.declared.side.Side.TheVariants.{Give, Get}
 use Rattle.round.proofs.Rows.{rows_le, gives_length, gets_length, count_rows, offer_at as entry_offer}
 use Rattle.round.proofs.Drawn.{rows_at}
 use Rattle.round.specs.Carrying.{sound_closed}
@@ -72,15 +71,15 @@ sides_within Get e ls l = omega (arith, gets_length ls e l)
 
 module _ {W : Type 0} (x : ClosedRound W) where
   -- as many arcs as the book has
-  pub arcs_long : length (entries x.arcs) ≡ length (arcs_of (closed_book x))
-  arcs_long = ∥∥₁_elim x.drawn (ℕ_set (length (entries x.arcs)) (length (arcs_of (closed_book x)))) (λ c. sym c.same.long)
+  pub arcs_long : length x.arcs ≡ length (arcs_of (closed_book x))
+  arcs_long = ∥∥₁_elim x.drawn (ℕ_set (length x.arcs) (length (arcs_of (closed_book x)))) (λ c. sym c.same.long)
 
-  small_flow : (i : ℕ) → i < length (entries x.arcs) → flow_of (entries x.arcs) i ≤ 1000
+  small_flow : (i : ℕ) → i < length x.arcs → flow_of x.arcs i ≤ 1000
   small_flow i l = let s = (sound_closed x).each i l in omega (arith, s.held, s.small)
 
-  module _ (k : ℕ) (e : Entry) (en : Entered (closed_book x) (entries x.round.lines) k e) (s : Side) (first count : ℕ) where
+  module _ (k : ℕ) (e : Entry) (en : Entered (closed_book x) x.round.lines k e) (s : Side) (first count : ℕ) where
     -- the lines of a side and a part of the arcs go together, where the side's arcs begin at the first
-    pub sided : (ls : List Line) (arcs : List Arc) → ls ≡ lines_on s (offer_of (entries x.round.lines) e) → length (lines_on s (offer_of (entries x.round.lines) e)) ≡ count → ((t : ℕ) → units_on s (closed_allotment x k) t ≡ flow_of (entries x.arcs) (first + t)) → first + count ≤ length (entries x.arcs) → arcs ≡ take count (drop first (entries x.arcs)) → Sided (closed_book x) (closed_allotment x) k s ls arcs
+    pub sided : (ls : List Line) (arcs : List Arc) → ls ≡ lines_on s (offer_of x.round.lines e) → length (lines_on s (offer_of x.round.lines e)) ≡ count → ((t : ℕ) → units_on s (closed_allotment x k) t ≡ flow_of x.arcs (first + t)) → first + count ≤ length x.arcs → arcs ≡ take count (drop first x.arcs) → Sided (closed_book x) (closed_allotment x) k s ls arcs
     sided ls arcs el long at inside ea = record {
       known = en.known;
       lines = lines;
@@ -95,13 +94,13 @@ module _ {W : Type 0} (x : ClosedRound W) where
         many = ap length el ∙ long
 
         as_many : length arcs ≡ length ls
-        as_many = ap length ea ∙ part_length (entries x.arcs) first count inside ∙ sym many
+        as_many = ap length ea ∙ part_length x.arcs first count inside ∙ sym many
 
-        flows : (t : ℕ) → t < count → flow_of arcs t ≡ flow_of (entries x.arcs) (first + t)
-        flows t l = ap (λ xs. flow_of xs t) ea ∙ part_flow (entries x.arcs) first count t l
+        flows : (t : ℕ) → t < count → flow_of arcs t ≡ flow_of x.arcs (first + t)
+        flows t l = ap (λ xs. flow_of xs t) ea ∙ part_flow x.arcs first count t l
 
         few : length ls ≤ 256
-        few = omega (arith, many, sides_within s e (entries x.round.lines) en.within, long, length_entries x.round.lines)
+        few = omega (arith, many, sides_within s e x.round.lines en.within, long, length_entries x.round.lines)
 
         price : (t : ℕ) (d : Line) → t < length ls → (get_or ls t d).price ≤ 1000000
         price t d l =

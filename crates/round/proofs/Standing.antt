@@ -1,5 +1,5 @@
 -- The law over whole uses of a round.
-use Rattle.std.proofs.Common.{◌≡◌, ◌↔◌, List, Ok, Err, Result, sym, refl, ap, ◌∙◌, subst, subst₂}
+use Rattle.std.proofs.Common.{◌≡◌, ◌↔◌, List, Ok, Err, Result, sym, refl, ap, ◌∙◌, subst, subst₂, None, Option, Some}
 use Rattle.tables.specs.declared.refusal.Refusal.{Refusal}
 use Rattle.worth.specs.Kinds.{Ops, Laws}
 use Rattle.worth.specs.Integers.{money_laws, weeks_laws}
@@ -8,8 +8,6 @@ use Rattle.flow.specs.Groups.{Kind, kind}
 use Rattle.flow.specs.Graphs.{Circulation, Within}
 use Rattle.flow.specs.Optimality as claims
 use Rattle.network.specs.Networks.{Net, flow_in, graph, value}
-use Rattle.search.specs.declared.improved.Improved.{Improved}
-use Rattle.search.specs.declared.improved.Improved.TheVariants.{Rise, Best}
 use Rattle.search.specs.Outcomes.{Improves, Climb, still, more, Improving, Clearing}
 use Rattle.search.specs.Uses.{risen, summed, Unbeaten}
 use Rattle.search.specs.Uses as networks
@@ -57,9 +55,9 @@ module _ {W : Type 0} (o : Ops W) where
   climb_network b h still = h
   climb_network b h (more {t = t} {u = u} {rise = rise} c i) = improves_network b t u rise (climb_network b h c) i
 
-  improving_network : (b : Book) (s t : Net) (work work' : List W) (r : Result (Improved W) Refusal) → NetworkOf b s → Improving o s t work work' r → NetworkOf b t
-  improving_network b s t work work' (Ok (Rise x)) h i = improves_network b s t x h i.0
-  improving_network b s t work work' (Ok Best) h i = subst (NetworkOf b) (sym i.0) h
+  improving_network : (b : Book) (s t : Net) (work work' : List W) (r : Result (Option W) Refusal) → NetworkOf b s → Improving o s t work work' r → NetworkOf b t
+  improving_network b s t work work' (Ok (Some x)) h i = improves_network b s t x h i.0
+  improving_network b s t work work' (Ok None) h i = subst (NetworkOf b) (sym i.0) h
   improving_network b s t work work' (Err e) h i = subst (NetworkOf b) (sym i.same) h
 
   clearing_network : (b : Book) (s t : Net) (work work' : List W) (r : Result W Refusal) → NetworkOf b s → Clearing o s t work work' r → NetworkOf b t

@@ -9,13 +9,11 @@ use Rattle.std.proofs.lemmas.List.{length-set, get_or-set_same, get_or-set_other
 use Rattle.std.proofs.lemmas.Int.{ints, by_lt_z}
 use Rattle.std.proofs.lemmas.Bool.{cases_lt, cases_eq}
 use Rattle.tables.specs.declared.refusal.Refusal.{Refusal}
-use Rattle.tables.specs.Tables.{entries}
 use Rattle.tables.proofs.Firsts.{not_first, not_rest}
-use Rattle.tables.proofs.Entries.{same_table}
 use Rattle.flow.specs.declared.arc.Arc.{Arc}
-use Rattle.flow.specs.Arcs.{blank, arc_at, flow_of, SameArcs}
+use Rattle.flow.specs.Arcs.{blank, arc_at, flow_of, SameArcs, with_flow}
 use Rattle.flow.proofs.Rows.{pushed_same}
-use Rattle.network.specs.Networks.{Net, SoundArc, with_flow, flow_in}
+use Rattle.network.specs.Networks.{Net, SoundArc, flow_in}
 use Rattle.network.specs.Networks as networks
 use Rattle.network.specs.Pushes.{ArcsPushed}
 use Rattle.book.specs.Books.{Book, Sound}
@@ -94,8 +92,8 @@ carries_pushed b before after i by (Ok u) p c = subst (Carries b) (sym (ap (λ n
 pub alike_settled : {W : Type 0} (x y : ClosedRound W) → Alike x y → closed_net x ≡ closed_net y → x ≡ y
 alike_settled x y a e =
     let q = a.round in
-    let p : x.arcs ≡ y.arcs = same_table x.arcs y.arcs (ap (λ n. n.arcs) e) a.rest in
-    λ i. record { round = q i; arcs = p i; kind = x.kind; drawn = is_prop→PathP (λ j. ∥ Carries (book (q j)) (entries (p j)) ∥₁) (λ j. ∥∥₁_prop) x.drawn y.drawn i }
+    let p : x.arcs ≡ y.arcs = ap (λ n. n.arcs) e in
+    λ i. record { round = q i; arcs = p i; kind = x.kind; drawn = is_prop→PathP (λ j. ∥ Carries (book (q j)) (p j) ∥₁) (λ j. ∥∥₁_prop) x.drawn y.drawn i }
 
 pub sound_closed : {W : Type 0} (x : ClosedRound W) → networks.Sound (closed_net x)
-sound_closed x = ∥∥₁_elim x.round.sound (sound_prop (closed_net x)) (λ s. ∥∥₁_elim x.drawn (sound_prop (closed_net x)) (carries_sound (book x.round) (entries x.arcs) s))
+sound_closed x = ∥∥₁_elim x.round.sound (sound_prop (closed_net x)) (λ s. ∥∥₁_elim x.drawn (sound_prop (closed_net x)) (carries_sound (book x.round) x.arcs s))

@@ -1,6 +1,6 @@
 -- What a closed round holds, and what close does.
 use Rattle.std.specs.Prelude.{◌≡◌}
-use Rattle.tables.specs.Tables.{entries, unused}
+use Rattle.flow.specs.Arcs.{SameArcs}
 use Rattle.network.specs.Networks.{Net, flow_in}
 use Rattle.book.specs.Books.{Book}
 use Rattle.book.specs.Allotments.{Allotment}
@@ -14,7 +14,7 @@ closed_book r = book r.round
 
 -- its network, with the flows that stand on it
 abbrev pub closed_net : {W : Type 0} → ClosedRound W → Net
-closed_net r = record { nodes = nodes (book r.round); arcs = entries r.arcs }
+closed_net r = record { nodes = nodes (book r.round); arcs = r.arcs }
 
 -- its allotment: the flows on the lines
 abbrev pub closed_allotment : {W : Type 0} → ClosedRound W → Allotment
@@ -25,7 +25,7 @@ pub record Closes (before after : Book) (n : Net) : Type 0 where
   pub book : after ≡ before
   pub net : n ≡ net_of before
 
--- the same but for flows: the same book, and the same in the cells past the arcs
+-- the same but for flows
 pub record Alike {W : Type 0} (x y : ClosedRound W) : Type 0 where
   pub round : x.round ≡ y.round
-  pub rest : unused x.arcs ≡ unused y.arcs
+  pub arcs : SameArcs x.arcs y.arcs

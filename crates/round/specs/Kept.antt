@@ -1,6 +1,5 @@
 -- How the tables of a round stand for its book.
 use Rattle.std.specs.Prelude.{◌≡◌, ℕ, ◌+◌, ◌<◌, ◌≤◌, Bool, ◌&&◌, List, [], ◌∷◌, map, length, take, drop, ◌==◌, slice_index_or}
-use Rattle.tables.specs.Tables.{entries}
 use Rattle.tables.specs.declared.table.Table.{Table}
 use Rattle.book.specs.Books.{Book, Offer, no_offer}
 use Rattle.book.specs.Arcs.{arcs_of, give_at}
@@ -16,7 +15,7 @@ offer_of ls e = record { member = e.member; limit = e.limit; give = take e.gives
 
 -- the book that the five tables stand for
 abbrev pub book_of : Table Name 16 → Table Name 32 → Table Holding 128 → Table Entry 64 → Table Line 256 → Book
-book_of items members holdings offers lines = record { items = map letters (entries items); members = map letters (entries members); holdings = entries holdings; offers = map (offer_of (entries lines)) (entries offers) }
+book_of items members holdings offers lines = record { items = map letters items; members = map letters members; holdings = holdings; offers = map (offer_of lines) offers }
 
 -- the lines of the entries stand one behind the other from n on, and end at m
 abbrev pub in_rows : ℕ → List Entry → ℕ → Bool

@@ -8,8 +8,8 @@ use Rattle.book.specs.Rows.{sum_with}
 use Rattle.book.specs.Books.{Book, Offer, no_offer}
 use Rattle.book.specs.Allotments.{Units, Allotment, payoff, weeks_of}
 use Rattle.book.specs.declared.line.Line.{Line}
-use Rattle.round.specs.declared.side.Side.{Side}
-use Rattle.round.specs.declared.side.Side.TheVariants.{Give, Get}
+use Rattle.book.specs.declared.side.Side.{Side}
+use Rattle.book.specs.declared.side.Side.TheVariants.{Give, Get}
 
 -- the lines of a side
 abbrev pub lines_on : Side → Offer → List Line

@@ -1,13 +1,11 @@
 -- The law over whole uses of a round, from open on.
-use Rattle.std.specs.Prelude.{◌≡◌, ℕ, ◌↔◌, List, [], ◌∷◌, ◌++◌, Ok, Err, Result, slice_index_or, slice_set}
+use Rattle.std.specs.Prelude.{◌≡◌, ℕ, ◌↔◌, List, [], ◌∷◌, ◌++◌, Ok, Err, Result, slice_index_or, slice_set, None, Option}
 use Rattle.tables.specs.declared.refusal.Refusal.{Refusal}
 use Rattle.worth.specs.Kinds.{Ops}
 use Rattle.worth.specs.Money.{money}
 use Rattle.worth.specs.Weeks.{weeks}
 use Rattle.worth.specs.Lexicographic.{pile}
 use Rattle.network.specs.Networks.{Net, flow_in, value}
-use Rattle.search.specs.declared.improved.Improved.{Improved}
-use Rattle.search.specs.declared.improved.Improved.TheVariants.{Best}
 use Rattle.search.specs.Outcomes.{Improving, Clearing}
 use Rattle.search.specs.Uses.{risen, summed}
 use Rattle.book.specs.Books.{Book, Offer, Sound, no_offer}
@@ -63,7 +61,7 @@ OpenLaw = (calls : List Accepted) (b : Book) → Opened calls b → (b ≡ left_
 -- such calls, then close, then calls of improve and clear, with the book, the network and the sum of the rises
 pub data Use {W : Type 0} (o : Ops W) : Book → Net → W → Type 0 where
   closed : {calls : List Accepted} {b : Book} (b' : Book) (n : Net) → Opened calls b → Closes b b' n → Use o b' n o.none
-  improved : {b : Book} {s : Net} {sum : W} (b' : Book) (t : Net) (work work' : List W) (r : Result (Improved W) Refusal) → Use o b s sum → b' ≡ b → Improving o s t work work' r → Use o b' t (o.plus sum (risen o r))
+  improved : {b : Book} {s : Net} {sum : W} (b' : Book) (t : Net) (work work' : List W) (r : Result (Option W) Refusal) → Use o b s sum → b' ≡ b → Improving o s t work work' r → Use o b' t (o.plus sum (risen o r))
   cleared : {b : Book} {s : Net} {sum : W} (b' : Book) (t : Net) (work work' : List W) (r : Result W Refusal) → Use o b s sum → b' ≡ b → Clearing o s t work work' r → Use o b' t (o.plus sum (summed o r))
 
 -- the allotment of a book whose network is n: the flows on the lines
@@ -77,7 +75,7 @@ module _ {W : Type 0} (o : Ops W) where
     pub fills : n ≡ filled b (allotted b n)
     pub allowed : Allowed b (allotted b n)
     pub worth : value o (filled b (allotted b n)) ≡ sum
-    pub best : (t : Net) (work work' : List W) (r : Improved W) → Improving o n t work work' (Ok r) → (r ≡ Best) ↔ BestAllotment o b (allotted b n)
+    pub best : (t : Net) (work work' : List W) (r : Option W) → Improving o n t work work' (Ok r) → (r ≡ None) ↔ BestAllotment o b (allotted b n)
     pub ends : (t : Net) (work work' : List W) (rise : W) → Clearing o n t work work' (Ok rise) → BestAllotment o b (allotted b t)
 
   abbrev pub Law : Type 0

@@ -1,4 +1,3 @@
-ghost use Rattle.tables.specs.Tables.{entries};
 ghost use Rattle.round.specs.Carried.{Carries};
 ghost use Rattle.round.specs.Rounds.{book};
 
@@ -19,5 +18,5 @@ pub struct ClosedRound<W> {
     round: OpenRound,
     arcs: Table<Arc, 448>,
     kind: PhantomData<W>,
-    ghost drawn: { ∥ Carries (book round) (entries arcs) ∥₁ },
+    ghost drawn: { ∥ Carries (book round) arcs ∥₁ },
 }

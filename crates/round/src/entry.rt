@@ -1,5 +1,5 @@
 // An offer as a round keeps it. Its lines stand in the round's table of lines from `first` on: the give lines, then the get lines.
-#[derive(Clone, Copy)]
+#[derive(Clone, Copy, Debug, Default, PartialEq, Eq)]
 pub struct Entry {
     pub member: u32,
     pub limit: u32,

@@ -5,4 +5,3 @@ pub mod closed_round;
 mod entry;
 pub mod offer_view;
 pub mod open_round;
-pub mod side;

@@ -1,5 +1,4 @@
 ghost use Rattle.std.specs.Prelude.{◌≡◌, true, length};
-ghost use Rattle.tables.specs.Tables.{entries};
 ghost use Rattle.book.specs.Books.{Sound};
 ghost use Rattle.round.specs.Kept.{book_of, in_rows};
 
@@ -26,5 +25,5 @@ pub struct OpenRound {
     offers: Table<Entry, 64>,
     lines: Table<Line, 256>,
     ghost sound: { ∥ Sound (book_of items members holdings offers lines) ∥₁ },
-    ghost rows: { in_rows 0 (entries offers) (length (entries lines)) ≡ true },
+    ghost rows: { in_rows 0 offers (length lines) ≡ true },
 }

@@ -1,5 +1,5 @@
 -- Clearing, rise by rise.
-use Rattle.std.proofs.Common.{◌≡◌, ℕ, zero, suc, ◌+◌, ◌*◌, ◌<◌, ◌≤◌, List, length, Ok, Err, Result, sym, refl, ap, ◌∙◌, subst, suc-mul, mul-le-mul, arith}
+use Rattle.std.proofs.Common.{◌≡◌, ℕ, zero, suc, ◌+◌, ◌*◌, ◌<◌, ◌≤◌, List, length, Ok, Err, Result, sym, refl, ap, ◌∙◌, subst, suc-mul, mul-le-mul, arith, None, Option, Some}
 use Rattle.worth.specs.Kinds.{Ops, Laws}
 use Rattle.tables.specs.declared.refusal.Refusal.{Refusal}
 use Rattle.flow.specs.Groups.{Kind, kind, times, total}
@@ -7,8 +7,6 @@ use Rattle.flow.specs.Arcs.{arc_at}
 use Rattle.flow.proofs.Group.{unit_right}
 use Rattle.network.specs.Networks.{Net, Sound, flow_in, graph, value}
 use Rattle.network.specs.Potentials.{Fitted}
-use Rattle.search.specs.declared.improved.Improved.{Improved}
-use Rattle.search.specs.declared.improved.Improved.TheVariants.{Rise, Best}
 use Rattle.search.specs.Outcomes.{Climb, still, more, Idle, Beyond, Improving, Clearing}
 use Rattle.search.proofs.Standing.{climb_value}
 use Rattle.search.proofs.Beaten.{beats, measure_falls}
@@ -65,7 +63,7 @@ module _ {W : Type 0} {o : Ops W} (laws : Laws o) (s t u : Net) (work work₁ wo
   beyond_on : Beyond o t.nodes work₁ work₂ → Beyond o s.nodes work work₂
   beyond_on q = record { enough = w.beyond.enough; long = q.long ∙ w.beyond.long; rest = λ v h. q.rest v (let e = climb_nodes w.climb in omega arith) ∙ w.beyond.rest v h }
 
-  pub not_short : (r : Result (Improved W) Refusal) (e : Refusal) → r ≡ Err e → Improving o t u work₁ work₂ r → ⊥
+  pub not_short : (r : Result (Option W) Refusal) (e : Refusal) → r ≡ Err e → Improving o t u work₁ work₂ r → ⊥
   not_short r e is i =
       let short = (subst (Improving o t u work₁ work₂) is i).short in
       let n = climb_nodes w.climb in
@@ -73,14 +71,14 @@ module _ {W : Type 0} {o : Ops W} (laws : Laws o) (s t u : Net) (work work₁ wo
       let l = w.beyond.long in
       omega arith
 
-  pub ended : (r : Improved W) → r ≡ Best → Improving o t u work₁ work₂ (Ok r) → Clearing o s u work work₂ (Ok sum)
+  pub ended : (r : Option W) → r ≡ None → Improving o t u work₁ work₂ (Ok r) → Clearing o s u work work₂ (Ok sum)
   ended r is i =
-      let b : Improving o t u work₁ work₂ (Ok Best) = subst (λ y. Improving o t u work₁ work₂ (Ok y)) is i in
+      let b : Improving o t u work₁ work₂ (Ok None) = subst (λ y. Improving o t u work₁ work₂ (Ok y)) is i in
       let e = sym b.0 in
       (subst (Climb o s sum) e w.climb, subst (λ m. Fitted o m work₂) e b.1, beyond_on b.2, subst (Idle o) e b.3)
 
-  module _ (r : Improved W) (rise : W) (is : r ≡ Rise rise) (i : Improving o t u work₁ work₂ (Ok r)) where
-    rose : Improving o t u work₁ work₂ (Ok (Rise rise))
+  module _ (r : Option W) (rise : W) (is : r ≡ Some rise) (i : Improving o t u work₁ work₂ (Ok r)) where
+    rose : Improving o t u work₁ work₂ (Ok (Some rise))
     rose = subst (λ y. Improving o t u work₁ work₂ (Ok y)) is i
 
     pub goes_on : (sum' : W) → sum' ≡ o.plus sum rise → UnderWay o s u work work₂ sum'

@@ -7,7 +7,7 @@ use Rattle.tables.specs.declared.refusal.Refusal.{Refusal}
 use Rattle.worth.specs.Kinds.{Ops}
 use Rattle.flow.specs.Groups.{Kind, times}
 use Rattle.flow.specs.Graphs.{Graph, when, worth}
-use Rattle.flow.specs.Arcs.{blank, arc_at, net, flow_of, SameArcs, SameArc}
+use Rattle.flow.specs.Arcs.{blank, arc_at, net, flow_of, SameArcs, SameArc, with_flow}
 use Rattle.flow.specs.Steps.{arc, starts, Apart, residual, Allows, Shifted, fore, rear, gain}
 use Rattle.flow.specs.declared.arc.Arc.{Arc}
 use Rattle.flow.specs.declared.step.Step.{Step}
@@ -15,7 +15,7 @@ use Rattle.flow.specs.declared.step.Step.TheVariants.{Forward, Backward}
 use Rattle.flow.proofs.Group.{unit_right}
 use Rattle.flow.proofs.Rows.{same_arc_refl, net_same}
 use Rattle.flow.proofs.Shift.{fore_capacity, rear_capacity, rise_holds}
-use Rattle.network.specs.Networks.{Net, Sound, flow_in, put_flow, with_flow, graph, value}
+use Rattle.network.specs.Networks.{Net, Sound, flow_in, put_flow, graph, value}
 use Rattle.network.specs.Pushes.{Pushed}
 use Rattle.search.specs.Links.{SoundArcs, tail_of, head_of, link, onto}
 use Rattle.search.specs.Cycles.{Measured, Takes, taken}

@@ -1,5 +1,5 @@
 -- The law over uses, from the outcomes of the calls.
-use Rattle.std.proofs.Common.{◌≡◌, ℕ, ◌<◌, Bool, true, false, eqb, ◌↔◌, List, length, Ok, Err, Result, sym, refl, ap, ◌∙◌, subst, ap₂, arith}
+use Rattle.std.proofs.Common.{◌≡◌, ℕ, ◌<◌, Bool, true, false, eqb, ◌↔◌, List, length, Ok, Err, Result, sym, refl, ap, ◌∙◌, subst, ap₂, arith, None, Option, Some}
 use Rattle.worth.specs.Kinds.{Ops, Laws}
 use Rattle.flow.specs.Groups.{Kind, kind, times}
 use Rattle.flow.specs.Graphs.{Circulation, Within, when, coming, going}
@@ -14,13 +14,11 @@ use Rattle.flow.proofs.Enough.{sufficient_holds}
 use Rattle.flow.proofs.Rows.{net_same}
 use Rattle.tables.specs.declared.refusal.Refusal.{Refusal}
 use Rattle.network.specs.Networks.{Net, Sound, SoundArc, flow_in, graph, value}
-use Rattle.search.specs.declared.improved.Improved.{Improved}
-use Rattle.search.specs.declared.improved.Improved.TheVariants.{Rise, Best}
 use Rattle.search.specs.Outcomes.{Improves, Climb, still, more, Improving, Clearing}
 use Rattle.network.specs.Potentials.{potential, Fitted}
 use Rattle.search.specs.Uses.{Use, begun, improved, cleared, risen, summed, Unbeaten, Standing, Law}
 
-rise_not_best : {W : Type 0} (x : W) → ◌≡◌ {A = Improved W} (Rise x) Best → ⊥
+rise_not_best : {W : Type 0} (x : W) → ◌≡◌ {A = Option W} (Some x) None → ⊥
 rise_not_best x e = let z : ◌≡◌ {A = ℕ} 0 1 = cc in omega arith
 
 module _ {W : Type 0} {o : Ops W} (laws : Laws o) where
@@ -88,9 +86,9 @@ module _ {W : Type 0} {o : Ops W} (laws : Laws o) where
   stands_on : (n : Net) (sum : W) → Stands n → value o n ≡ sum → Standing o n sum
   stands_on n sum st e = record { sound = st.sound; circulation = st.circulation; within = st.within; worth = e; best = best; ends = λ t work work' sum' c. fitted_unbeaten t work' (climb_stands st c.0) c.1 }
     where
-      best : (t : Net) (work work' : List W) (r : Improved W) → Improving o n t work work' (Ok r) → (r ≡ Best) ↔ Unbeaten o n
-      best t work work' (Rise x) i = (λ z. absurd (rise_not_best x z), λ u. absurd (not_best K (graph o n) (flow_in n) st.circulation st.within i.0.cycle i.0.gainful u))
-      best t work work' Best i = (λ z. fitted_unbeaten n work' st i.1, λ u. refl)
+      best : (t : Net) (work work' : List W) (r : Option W) → Improving o n t work work' (Ok r) → (r ≡ None) ↔ Unbeaten o n
+      best t work work' (Some x) i = (λ z. absurd (rise_not_best x z), λ u. absurd (not_best K (graph o n) (flow_in n) st.circulation st.within i.0.cycle i.0.gainful u))
+      best t work work' None i = (λ z. fitted_unbeaten n work' st i.1, λ u. refl)
 
   -- what each call of a use hands on to the next
   pub record So (n : Net) (sum : W) : Type 0 where
@@ -117,9 +115,9 @@ module _ {W : Type 0} {o : Ops W} (laws : Laws o) where
   pub idle_so : (n : Net) → Sound n → ((i : ℕ) → flow_in n i ≡ 0) → So n o.none
   idle_so n s z = record { stands = record { sound = s; circulation = circulation_none n z; within = λ i l. let e = z i in omega arith }; worth = value_none n z }
 
-  pub improved_so : {s : Net} {sum : W} → So s sum → (t : Net) (work work' : List W) (r : Result (Improved W) Refusal) → Improving o s t work work' r → So t (o.plus sum (risen o r))
-  improved_so {s} h t work work' (Ok (Rise x)) i = record { stands = improves_stands s t x h.stands i.0; worth = sym (on_top (value o s) (value o t)) ∙ ap₂ o.plus h.worth (sym i.0.rises) }
-  improved_so h t work work' (Ok Best) i = onward h t i.0
+  pub improved_so : {s : Net} {sum : W} → So s sum → (t : Net) (work work' : List W) (r : Result (Option W) Refusal) → Improving o s t work work' r → So t (o.plus sum (risen o r))
+  improved_so {s} h t work work' (Ok (Some x)) i = record { stands = improves_stands s t x h.stands i.0; worth = sym (on_top (value o s) (value o t)) ∙ ap₂ o.plus h.worth (sym i.0.rises) }
+  improved_so h t work work' (Ok None) i = onward h t i.0
   improved_so h t work work' (Err e) i = onward h t i.same
 
   pub cleared_so : {s : Net} {sum : W} → So s sum → (t : Net) (work work' : List W) (r : Result W Refusal) → Clearing o s t work work' r → So t (o.plus sum (summed o r))

@@ -1,13 +1,11 @@
 -- The first entries of a work table, and the rest.
-use Rattle.std.proofs.Common.{◌≡◌, ℕ, ◌-◌, ◌<◌, ◌≤◌, List, ◌++◌, length, get_or, take, drop, replicate, None, Ok, Option, sym, ap, ◌∙◌, subst, subst₂, ⊎_elim, arith, length-append, length-drop}
+use Rattle.std.proofs.Common.{◌≡◌, ℕ, ◌-◌, ◌<◌, ◌≤◌, List, ◌++◌, length, get_or, take, drop, replicate, None, Ok, Option, sym, ap, ◌∙◌, subst, subst₂, ⊎_elim, arith, length-append, length-drop, Some}
 use lib.ListN.{length-replicate, get_or-replicate}
 use Rattle.std.proofs.lemmas.List.{get_or_append_left, get_or-append_right, get_or-drop, get_or_past, get_or-take, length-take, length-take-le}
 use Rattle.std.proofs.lemmas.Bool.{cases_lt}
 use Rattle.worth.specs.Kinds.{Ops}
 use Rattle.flow.specs.Groups.{Le}
 use Rattle.network.specs.Networks.{Net, Sound, graph}
-use Rattle.search.specs.declared.improved.Improved.{Improved}
-use Rattle.search.specs.declared.improved.Improved.TheVariants.{Rise, Best}
 use Rattle.flow.specs.declared.step.Step.{Step}
 use Rattle.search.specs.Links.{link, Unlinked}
 use Rattle.search.specs.Outcomes.{Improving, Beyond}
@@ -43,9 +41,9 @@ module _ {W : Type 0} (o : Ops W) where
       small = λ v h. subst (λ a. o.size a ≤ 1000000) (sym (first_at v h)) (f.small v h);
     }
 
-    pub widened : (after : Net) (part : List W) (r : Improved W) → Improving o n after part ys (Ok r) → Improving o n after work (ys ++ drop k work) (Ok r)
-    widened after part (Rise x) w = (w.0, λ v h. first_at v h ∙ w.1 v h, beyond)
-    widened after part Best w = (w.0, fitted w.1, beyond, w.3)
+    pub widened : (after : Net) (part : List W) (r : Option W) → Improving o n after part ys (Ok r) → Improving o n after work (ys ++ drop k work) (Ok r)
+    widened after part (Some x) w = (w.0, λ v h. first_at v h ∙ w.1 v h, beyond)
+    widened after part None w = (w.0, fitted w.1, beyond, w.3)
 
 -- a work table with just one entry for each node has none beyond
 pub beyond_none : {W : Type 0} (o : Ops W) (nodes : ℕ) (work work' : List W) → length work ≡ nodes → length work' ≡ length work → Beyond o nodes work work'

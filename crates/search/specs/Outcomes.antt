@@ -1,5 +1,5 @@
 -- What improve and clear do to a network and a work table.
-use Rattle.std.specs.Prelude.{◌≡◌, ℕ, ◌<◌, ◌≤◌, List, length, Ok, Err, Result}
+use Rattle.std.specs.Prelude.{◌≡◌, ℕ, ◌<◌, ◌≤◌, List, length, Ok, Err, Result, None, Option, Some}
 use Rattle.worth.specs.Kinds.{Ops}
 use Rattle.flow.specs.declared.step.Step.{Step}
 use Rattle.flow.specs.Steps.{Gainful, Shifted, Allows}
@@ -8,8 +8,6 @@ use Rattle.tables.specs.declared.refusal.Refusal.{Refusal}
 use Rattle.tables.specs.Refusals.{number}
 use Rattle.network.specs.Networks.{Net, flow_in, graph, value}
 use Rattle.network.specs.Potentials.{potential, Fitted}
-use Rattle.search.specs.declared.improved.Improved.{Improved}
-use Rattle.search.specs.declared.improved.Improved.TheVariants.{Rise, Best}
 
 -- flow was shifted along one cycle worth more than none, by as much as all its steps allow, and nothing else changed;
 -- the rise is the worth after less the worth before
@@ -52,9 +50,9 @@ module _ {W : Type 0} (o : Ops W) where
     pub kept : work' ≡ work
 
   -- improve: one cycle and the work table none; or, where no cycle is worth more than none, potentials that fit; or a refusal
-  abbrev pub Improving : Net → Net → List W → List W → Result (Improved W) Refusal → Type 0
-  Improving before after work work' (Ok (Rise rise)) = Improves o before after rise × Nones before.nodes work' × Beyond before.nodes work work'
-  Improving before after work work' (Ok Best) = (after ≡ before) × Fitted o before work' × Beyond before.nodes work work' × Idle before
+  abbrev pub Improving : Net → Net → List W → List W → Result (Option W) Refusal → Type 0
+  Improving before after work work' (Ok (Some rise)) = Improves o before after rise × Nones before.nodes work' × Beyond before.nodes work work'
+  Improving before after work work' (Ok None) = (after ≡ before) × Fitted o before work' × Beyond before.nodes work work' × Idle before
   Improving before after work work' (Err e) = Short before after work work' e
 
   -- clear: cycle after cycle until none is worth more than none, with the sum of the rises and potentials that fit; or a refusal

@@ -1,19 +1,17 @@
 -- The law over uses: what holds of a network after any calls of improve and clear, from zero flows on.
-use Rattle.std.specs.Prelude.{◌≡◌, ℕ, ◌↔◌, List, Ok, Err, Result}
+use Rattle.std.specs.Prelude.{◌≡◌, ℕ, ◌↔◌, List, Ok, Err, Result, None, Option, Some}
 use Rattle.worth.specs.Kinds.{Ops}
 use Rattle.flow.specs.Graphs.{Circulation, Within}
 use Rattle.flow.specs.Optimality as optimality
 use Rattle.tables.specs.declared.refusal.Refusal.{Refusal}
 use Rattle.network.specs.Networks.{Net, Sound, flow_in, graph, value}
-use Rattle.search.specs.declared.improved.Improved.{Improved}
-use Rattle.search.specs.declared.improved.Improved.TheVariants.{Rise, Best}
 use Rattle.search.specs.Outcomes.{Improving, Clearing}
 
 module _ {W : Type 0} (o : Ops W) where
   -- what a call of improve adds to the sum of the rises
-  abbrev pub risen : Result (Improved W) Refusal → W
-  risen (Ok (Rise rise)) = rise
-  risen (Ok Best) = o.none
+  abbrev pub risen : Result (Option W) Refusal → W
+  risen (Ok (Some rise)) = rise
+  risen (Ok None) = o.none
   risen (Err e) = o.none
 
   -- what a call of clear adds to the sum of the rises
@@ -28,7 +26,7 @@ module _ {W : Type 0} (o : Ops W) where
 -- a use: from zero flows any calls of improve and clear, refused ones too, with the sum of their rises
 pub data Use {W : Type 0} (o : Ops W) : Net → W → Type 0 where
   begun : {n : Net} → Sound n → ((i : ℕ) → flow_in n i ≡ 0) → Use o n o.none
-  improved : {s : Net} {sum : W} (t : Net) (work work' : List W) (r : Result (Improved W) Refusal) → Use o s sum → Improving o s t work work' r → Use o t (o.plus sum (risen o r))
+  improved : {s : Net} {sum : W} (t : Net) (work work' : List W) (r : Result (Option W) Refusal) → Use o s sum → Improving o s t work work' r → Use o t (o.plus sum (risen o r))
   cleared : {s : Net} {sum : W} (t : Net) (work work' : List W) (r : Result W Refusal) → Use o s sum → Clearing o s t work work' r → Use o t (o.plus sum (summed o r))
 
 module _ {W : Type 0} (o : Ops W) where
@@ -39,7 +37,7 @@ module _ {W : Type 0} (o : Ops W) where
     pub circulation : Circulation (graph o n) (flow_in n)
     pub within : Within (graph o n) (flow_in n)
     pub worth : value o n ≡ sum
-    pub best : (t : Net) (work work' : List W) (r : Improved W) → Improving o n t work work' (Ok r) → (r ≡ Best) ↔ Unbeaten o n
+    pub best : (t : Net) (work work' : List W) (r : Option W) → Improving o n t work work' (Ok r) → (r ≡ None) ↔ Unbeaten o n
     pub ends : (t : Net) (work work' : List W) (sum' : W) → Clearing o n t work work' (Ok sum') → Unbeaten o t
 
   -- wherever a use stops, that stands

@@ -2,7 +2,6 @@ ghost use Rattle.search.specs.Outcomes.{Clearing};
 ghost use Rattle.search.specs.Uses.{Law};
 
 use super::improve::improve;
-use super::improved::Improved;
 use network::improvable::Improvable;
 use network::readable::Network;
 use tables::refusal::Refusal;
@@ -23,10 +22,10 @@ pub fn clear<N: Improvable>(net: &mut N, work: &mut [N::W]) -> Result<N::W, Refu
     let mut sum = N::W::none();
     loop {
         match improve(net, work)? {
-            Improved::Best => {
+            None => {
                 return Ok(sum);
             }
-            Improved::Rise(rise) => {
+            Some(rise) => {
                 sum = sum.plus(rise);
             }
         }

@@ -4,7 +4,6 @@ ghost use Rattle.search.specs.Outcomes.{Improving};
 ghost use Rattle.search.specs.Uses.{Law};
 
 use super::cycle::measure;
-use super::improved::Improved;
 use super::shift::shift;
 use super::sweep::{blank, find_cycle};
 use flow::arc::Arc;
@@ -32,7 +31,7 @@ fn improve_within<N: Improvable>(
     work: &mut [N::W],
     table: &mut [Arc],
     links: &mut [Option<Step>],
-) -> Improved<N::W>
+) -> Option<N::W>
     requires worked { length work.old ≡ (N.Network.net net.old).nodes }
     requires tabled { length table.old ≡ length (N.Network.net net.old).arcs }
     requires linked { length links.old ≡ (N.Network.net net.old).nodes }
@@ -42,12 +41,12 @@ fn improve_within<N: Improvable>(
 {
     read_arcs(net, table);
     match find_cycle(table, work, links) {
-        None => Improved::Best,
+        None => None,
         Some(closing) => {
             let (amount, total) = measure::<N::W>(table, links, closing);
             let rise = shift(net, table, links, closing, amount, total);
             blank(work);
-            Improved::Rise(rise)
+            Some(rise)
         }
     }
 }
@@ -76,7 +75,7 @@ fn no_links() -> [Option<Step>; 272]
 // Shifts along one cycle worth more than none as much as all its steps allow, if there is such a cycle; then the work
 // table's entries for the nodes become none. Else the network is best, and they become potentials that fit.
 // A work table shorter than the nodes is refused.
-pub fn improve<N: Improvable>(net: &mut N, work: &mut [N::W]) -> Result<Improved<N::W>, Refusal>
+pub fn improve<N: Improvable>(net: &mut N, work: &mut [N::W]) -> Result<Option<N::W>, Refusal>
     ensures outcome { Improving N.W.Worth.ops (N.Network.net net.old) (N.Network.net net.new) work.old work.new result }
     ensures kept { N.Improvable.alike net.old net.new }
     ensures law { Law N.W.Worth.ops }

@@ -1,12 +1,11 @@
 // Improve and clear, over every network that can be improved and every kind of worth.
-// Only these two calls and what improve answers are public; the rest is the search that they share.
+// Only these two calls are public; the rest is the search that they share.
 #![tactic(auto)]
 
 pub mod clear;
 mod climb;
 mod cycle;
 pub mod improve;
-pub mod improved;
 mod shift;
 mod step;
 mod sweep;

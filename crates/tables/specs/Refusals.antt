@@ -1,5 +1,5 @@
 -- Why a call is refused, with which number, and which of several reasons is given.
-use Rattle.std.specs.Prelude.{◌≡◌, ℕ, List, [], ◌∷◌, Some, None, Ok, Err, codes, Option, Result}
+use Rattle.std.specs.Prelude.{◌≡◌, ℕ, List, [], ◌∷◌, ◌++◌, Some, None, Ok, Err, codes, decimal, Option, Result}
 use Rattle.tables.specs.declared.refusal.Refusal.{Refusal}
 use Rattle.tables.specs.declared.refusal.Refusal.TheVariants.{Unknown, Full, Bounds, Price, Spelling, Double, Bare, Loop, Withdrawn, Short, Unfit, Page, Layout, Long, Rule, Sheet}
 
@@ -40,6 +40,10 @@ named Layout = codes "text departs from the layout"
 named Long = codes "text over 32,768 bytes"
 named Rule = codes "a rule of allotments or a room is broken"
 named Sheet = codes "text reads but is not a sheet"
+
+-- the text of a refusal: its number and its name
+abbrev pub described : Refusal → List ℕ
+described e = decimal (number e) ++ (codes ": " ++ named e)
 
 -- a condition, with the number of the refusal that it brings
 pub data Row : Type 1 where

@@ -1,16 +1,7 @@
 -- What a table holds, and what its calls do to the list of its entries.
-use Rattle.std.specs.Prelude.{◌≡◌, ℕ, ◌+◌, ◌<◌, ◌≤◌, List, [], ◌∷◌, ◌++◌, length, take, drop, Some, None, Option, Result, MatchResult, slice_index_or, slice_set}
+use Rattle.std.specs.Prelude.{◌≡◌, ℕ, ◌+◌, ◌<◌, ◌≤◌, List, [], ◌∷◌, ◌++◌, length, Some, None, Option, Result, MatchResult, slice_index_or, slice_set}
 use Rattle.tables.specs.Refusals.{when, First, refusal}
 use Rattle.tables.specs.declared.refusal.Refusal.{Refusal}
-use Rattle.tables.specs.declared.table.Table.{Table}
-
--- the entries of a table, in order
-abbrev pub entries : {X : Type 0} {n : ℕ} → Table X n → List X
-entries t = take t.len t.cells
-
--- the cells past the entries, which no call reads
-abbrev pub unused : {X : Type 0} {n : ℕ} → Table X n → List X
-unused t = drop t.len t.cells
 
 -- what is found at index i: entry i, whatever default the list is read with, or nothing past the end
 abbrev pub Found : {X : Type 0} → List X → ℕ → Option X → Type 0

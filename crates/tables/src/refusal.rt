@@ -1,25 +1,28 @@
-ghost use Rattle.std.specs.Prelude.{◌≡◌};
-ghost use Rattle.tables.specs.Refusals.{number as numbered, named};
+ghost use Rattle.std.specs.Prelude.{◌≡◌, Some};
+ghost use Rattle.tables.specs.Refusals.{number as numbered, named, described};
 
-// Why a call came back with nothing done.
-#[derive(Clone, Copy)]
+use std::error::Error;
+use std::fmt;
+
+// Why a call came back with nothing done, and the number by which the exchange knows it.
+#[derive(Clone, Copy, Debug, PartialEq, Eq)]
 pub enum Refusal {
-    Unknown,
-    Full,
-    Bounds,
-    Price,
-    Spelling,
-    Double,
-    Bare,
-    Loop,
-    Withdrawn,
-    Short,
-    Unfit,
-    Page,
-    Layout,
-    Long,
-    Rule,
-    Sheet,
+    Unknown = 1,
+    Full = 2,
+    Bounds = 3,
+    Price = 4,
+    Spelling = 5,
+    Double = 6,
+    Bare = 7,
+    Loop = 8,
+    Withdrawn = 9,
+    Short = 10,
+    Unfit = 11,
+    Page = 12,
+    Layout = 13,
+    Long = 14,
+    Rule = 15,
+    Sheet = 16,
 }
 
 impl Refusal {
@@ -27,24 +30,7 @@ impl Refusal {
     pub fn number(self) -> u32
         ensures { result ≡ numbered self }
     {
-        match self {
-            Refusal::Unknown => 1,
-            Refusal::Full => 2,
-            Refusal::Bounds => 3,
-            Refusal::Price => 4,
-            Refusal::Spelling => 5,
-            Refusal::Double => 6,
-            Refusal::Bare => 7,
-            Refusal::Loop => 8,
-            Refusal::Withdrawn => 9,
-            Refusal::Short => 10,
-            Refusal::Unfit => 11,
-            Refusal::Page => 12,
-            Refusal::Layout => 13,
-            Refusal::Long => 14,
-            Refusal::Rule => 15,
-            Refusal::Sheet => 16,
-        }
+        self as u32
     }
 
     // What is wrong, in a few words.
@@ -71,3 +57,14 @@ impl Refusal {
         }
     }
 }
+
+// The number, and what is wrong.
+impl fmt::Display for Refusal {
+    ghost output = { λ e. Some (described e) };
+
+    fn fmt<W: fmt::Write>(&self, f: &mut fmt::Formatter<W>) -> fmt::Result {
+        write!(f, "{}: {}", self.number(), self.name())
+    }
+}
+
+impl Error for Refusal {}

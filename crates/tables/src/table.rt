@@ -1,12 +1,21 @@
-ghost use Rattle.std.specs.Prelude.{◌≡◌, ◌≤◌, length};
+use std::marker::Model;
 
 mod calls;
 
-// A list of at most N entries, held in place: no call on it allocates.
+// A list of at most N entries. It is held in place, with its length beside it, since no call of the library may fail for want of memory.
 #[derive(Drop)]
 pub struct Table<T, const N: usize> {
     cells: [T; N],
     len: usize,
-    ghost full: { length cells ≡ N },
-    ghost few: { len ≤ N },
+}
+
+// Contracts see a table as the list of its entries; the cells past them are never read.
+impl<T, const N: usize> Model for Table<T, N> {
+    ghost use Rattle.std.specs.Prelude.{◌≡◌, ◌≤◌, List, length, take};
+
+    ghost Value = { List T };
+
+    ghost view = { λ t. take t.len t.cells };
+
+    ghost invariant = { λ t. (length t.cells ≡ N) × (t.len ≤ N) };
 }

@@ -1,13 +1,12 @@
 -- Texts in the making, and their copies on a page.
 use Rattle.std.specs.Prelude.{◌≡◌, ℕ, ◌+◌, ◌<◌, List, [], ◌∷◌, ◌++◌, length, take, drop, Result, MatchResult}
 use Rattle.tables.specs.Refusals.{when, First, refusal}
-use Rattle.tables.specs.Tables.{entries}
 use Rattle.tables.specs.declared.refusal.Refusal.{Refusal}
 use Rattle.text.specs.declared.buffer.Buffer.{Buffer}
 
 -- the bytes of a buffer
 abbrev pub written : Buffer → List ℕ
-written buffer = entries buffer.bytes
+written buffer = buffer.bytes
 
 -- more bytes after those before, as far as they fit into 32,768; refused where they do not fit
 pub record Put (before after more : List ℕ) (r : Result (Unit {0}) Refusal) : Type 0 where

@@ -1,8 +1,7 @@
 ghost use Rattle.std.specs.Prelude.{◌≡◌, ◌≤◌, ◌⊎◌, pos, ◌+ℤ◌, ◌<ℤ◌, MatchOption};
-ghost use Rattle.network.specs.Networks.{with_flow};
+ghost use Rattle.flow.specs.Arcs.{with_flow};
 ghost use Rattle.haul_table.specs.Roads.{hauled, Alike};
 ghost use Rattle.std.proofs.Common.{arith};
-ghost use Rattle.tables.specs.Tables.{entries};
 ghost use Rattle.tables.proofs.Entries.{length_entries};
 ghost use Rattle.haul_table.specs.Checked.{all_at};
 ghost use Rattle.haul_table.specs.Pushing.{alike_itself, alike_onward, alike_settled};
@@ -19,7 +18,7 @@ impl<W: Worth> Network for HaulTable<W> {
 
     ghost sound = { λ x.
         let long = length_entries x.arcs in
-        record { few_nodes = omega arith; few_arcs = omega arith; each = all_at 64 (entries x.arcs) x.sound } };
+        record { few_nodes = omega arith; few_arcs = omega arith; each = all_at 64 x.arcs x.sound } };
 
     fn counts(&self) -> (u32, u32) {
         (64, self.arcs.len() as u32)

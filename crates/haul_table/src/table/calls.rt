@@ -1,9 +1,9 @@
 ghost use Rattle.std.specs.Prelude.{◌≡◌, ◌<◌, [], length};
 ghost use Rattle.tables.specs.Refusals.{First, refusal};
-ghost use Rattle.tables.specs.Tables.{entries};
 ghost use Rattle.network.specs.Networks.{SoundArc, value};
 ghost use Rattle.search.specs.Outcomes.{Improving, Clearing};
-ghost use Rattle.haul_table.specs.Roads.{hauled, empty, fresh, with_arc, road_rows, Roaded, Alike};
+ghost use Rattle.flow.specs.Arcs.{fresh};
+ghost use Rattle.haul_table.specs.Roads.{hauled, empty, with_arc, road_rows, Roaded, Alike};
 ghost use Rattle.haul_table.specs.Uses.{Law};
 
 use super::HaulTable;
@@ -12,7 +12,6 @@ use network::improvable::Improvable;
 use network::valuation::worth;
 use search::clear::clear;
 use search::improve::improve;
-use search::improved::Improved;
 use std::marker::PhantomData;
 use tables::refusal::Refusal;
 use tables::table::Table;
@@ -20,7 +19,7 @@ use worth::kind::Worth;
 
 // No arcs, and cells for all that there can be.
 fn no_arcs() -> Table<Arc, 256>
-    ensures { entries result ≡ [] }
+    ensures { result ≡ [] }
 {
     Table::new(fresh_arc(0, 0, 0, 0, 0))
 }
@@ -71,7 +70,7 @@ impl<W: Worth> HaulTable<W> {
     // Puts an arc after the others.
     fn append(&mut self, arc: Arc)
         requires sound { SoundArc 64 arc }
-        requires few { length (entries self.old.arcs) < 256 }
+        requires few { length self.old.arcs < 256 }
         ensures { hauled self.new ≡ with_arc (hauled self.old) arc }
     {
         let _ = self.arcs.push(arc);
@@ -97,7 +96,7 @@ impl<W: Worth> HaulTable<W> {
     }
 
     // Shifts along one cycle worth more than none, or says that the flows are best.
-    pub fn improve(&mut self, work: &mut [W]) -> Result<Improved<W>, Refusal>
+    pub fn improve(&mut self, work: &mut [W]) -> Result<Option<W>, Refusal>
         ensures outcome { Improving W.Worth.ops (hauled self.old) (hauled self.new) work.old work.new result }
         ensures kept { Alike self.old self.new }
         ensures law { Law W.Worth.ops }

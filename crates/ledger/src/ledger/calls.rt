@@ -2,7 +2,8 @@ ghost use Rattle.std.specs.Prelude.{◌≡◌, ◌≤◌, [], ◌∷◌, length,
 ghost use Rattle.ledger.specs.Ledgers.{listed, Entered};
 ghost use Rattle.ledger.specs.Trades.{weeks_got, lines_of, worth_of, balance, payoff_of, weeks_of, payoffs_below};
 
-use super::super::trade::{Side, Trade};
+use super::super::trade::Trade;
+use book::side::Side;
 use super::Ledger;
 use tables::refusal::Refusal;
 use tables::table::Table;

@@ -1,5 +1,4 @@
 ghost use Rattle.std.specs.Prelude.{◌≡◌, length, IfOk, MatchResult};
-ghost use Rattle.tables.specs.Tables.{entries};
 ghost use Rattle.book.specs.Books.{line_count};
 ghost use Rattle.layout.specs.Layout.{nothing};
 ghost use Rattle.layout.specs.Runs.{ComesTo, reads};
@@ -43,8 +42,8 @@ fn read_round(reader: &mut Reader<'_>) -> Result<OpenRound, Fault>
 
 // All sections after that of the kind, to the end of the text.
 fn read_parts(reader: &mut Reader<'_>, kind: Kind) -> Result<Parts, Fault>
-    ensures read { MatchResult result (λ p. ComesTo after_kind (of_kind kind nothing) reader.old.rest.now reader.old.line (reads (held kind (book p.round) (entries p.units) (entries p.levels)))) (λ f. Stops after_kind (of_kind kind nothing) reader.old f) }
-    ensures counted { IfOk result (λ p. length (entries p.units) ≡ line_count (book p.round).offers) }
+    ensures read { MatchResult result (λ p. ComesTo after_kind (of_kind kind nothing) reader.old.rest.now reader.old.line (reads (held kind (book p.round) p.units p.levels))) (λ f. Stops after_kind (of_kind kind nothing) reader.old f) }
+    ensures counted { IfOk result (λ p. length p.units ≡ line_count (book p.round).offers) }
 {
     let mut round = read_round(reader)?;
     let mut units = Table::new(0);

@@ -9,7 +9,7 @@ ghost use Rattle.record.specs.Writing.{Adds, side_lines};
 use super::lines::{write_head, write_row};
 use book::line::Line;
 use round::closed_round::ClosedRound;
-use round::side::Side;
+use book::side::Side;
 use text::buffer::Buffer;
 use text::section::Section;
 use worth::kind::Worth;

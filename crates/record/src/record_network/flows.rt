@@ -1,5 +1,4 @@
 ghost use Rattle.std.specs.Prelude.{◌≡◌, ◌+◌, ◌*◌, ◌^◌, ◌<◌, ◌≤◌, ◌∷◌, ◌++◌, map, length, sum, ◌==◌, slice_index};
-ghost use Rattle.tables.specs.Tables.{entries};
 ghost use Rattle.flow.specs.Graphs.{when};
 ghost use Rattle.book.specs.Allotments.{of_item};
 ghost use Rattle.reading.specs.Contents.{contents};
@@ -56,7 +55,7 @@ fn given_from(record: &Record, h: Holding) -> u32
 
 // The flows on the arcs of the holdings.
 fn holding_flows(record: &Record) -> Table<u32, 448>
-    ensures { entries result ≡ map (given_from (contents «record».now)) (contents «record».now).holdings }
+    ensures { result ≡ map (given_from (contents «record».now)) (contents «record».now).holdings }
 {
     let mut flows = Table::new(0);
     for h in record.terms().held() {
@@ -76,8 +75,8 @@ fn total(units: &[u32]) -> u32
 // Adds the flows on the arcs of an offer: those of its give lines, its own, those of its get lines.
 fn add_offer(flows: &mut Table<u32, 448>, offer: FilledOffer<'_>)
     requires moderate { Moderate offer.give.now offer.given.now }
-    requires room { length (entries flows.old) + (length offer.given.now + length offer.got.now) < 448 }
-    ensures { entries flows.new ≡ entries flows.old ++ (offer.entry.given.now ++ (sum offer.entry.given.now ∷ offer.entry.got.now)) }
+    requires room { length flows.old + (length offer.given.now + length offer.got.now) < 448 }
+    ensures { flows.new ≡ flows.old ++ (offer.entry.given.now ++ (sum offer.entry.given.now ∷ offer.entry.got.now)) }
 {
     let _ = flows.extend(offer.given);
     let _ = flows.push(total(offer.given));
@@ -86,7 +85,7 @@ fn add_offer(flows: &mut Table<u32, 448>, offer: FilledOffer<'_>)
 
 // The flow of each arc of the record's network, in the order of the arcs.
 pub(super) fn flows_of(record: &Record) -> Table<u32, 448>
-    ensures { entries result ≡ flows_of (contents «record».now) }
+    ensures { result ≡ flows_of (contents «record».now) }
 {
     let mut flows = holding_flows(record);
     let mut first = 0;

@@ -1,5 +1,5 @@
 ghost use Rattle.round.specs.Closed.{closed_net, Alike};
-ghost use Rattle.round.specs.Carrying.{sound_closed, alike_settled};
+ghost use Rattle.round.specs.Carrying.{sound_closed, same_refl, same_trans, alike_settled};
 ghost use Rattle.std.specs.Prelude.{refl};
 ghost use Rattle.std.proofs.Common.{◌∙◌};
 
@@ -33,9 +33,9 @@ impl<W: Worth> Improvable for ClosedRound<W> {
 
     ghost alike = { λ x y. Alike x y };
 
-    ghost itself = { λ x. record { round = refl; rest = refl } };
+    ghost itself = { λ x. record { round = refl; arcs = same_refl x.arcs } };
 
-    ghost onward = { λ x y z p q. record { round = p.round ∙ q.round; rest = p.rest ∙ q.rest } };
+    ghost onward = { λ x y z p q. record { round = p.round ∙ q.round; arcs = same_trans x.arcs y.arcs z.arcs p.arcs q.arcs } };
 
     ghost settled = { λ x y a e. alike_settled x y a e };
 

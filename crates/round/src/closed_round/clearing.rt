@@ -6,13 +6,12 @@ ghost use Rattle.round.specs.Uses.{Law};
 use super::ClosedRound;
 use search::clear::clear;
 use search::improve::improve;
-use search::improved::Improved;
 use tables::refusal::Refusal;
 use worth::kind::Worth;
 
 impl<W: Worth> ClosedRound<W> {
     // Shifts along one cycle worth more than none, or says that the allotment is best.
-    pub fn improve(&mut self, work: &mut [W]) -> Result<Improved<W>, Refusal>
+    pub fn improve(&mut self, work: &mut [W]) -> Result<Option<W>, Refusal>
         ensures outcome { Improving W.Worth.ops (closed_net self.old) (closed_net self.new) work.old work.new result }
         ensures kept { closed_book self.new ≡ closed_book self.old }
         ensures law { Law W.Worth.ops }

@@ -1,5 +1,4 @@
 ghost use Rattle.std.specs.Prelude.{◌≡◌, ◌+◌, ◌≤◌, length, take, drop, pos, ◌-ℤ◌, MatchOption};
-ghost use Rattle.tables.specs.Tables.{entries};
 ghost use Rattle.flow.specs.Arcs.{flow_of};
 ghost use Rattle.network.specs.Networks.{value};
 ghost use Rattle.book.specs.Allotments.{price_of};
@@ -8,7 +7,7 @@ ghost use Rattle.round.specs.Holdings.{AnswersHolding};
 ghost use Rattle.round.specs.Questions.{weeks_on, Moderate, Sided, AnswersUnits, AnswersPayoff};
 ghost use Rattle.round.specs.Uses.{Law};
 
-use super::super::side::Side;
+use book::side::Side;
 use super::ClosedRound;
 use book::line::Line;
 use flow::arc::Arc;
@@ -54,8 +53,8 @@ fn difference(got: u64, given: u64) -> i64
 impl<W: Worth> ClosedRound<W> {
     // So many arcs from one on.
     fn part(&self, first: usize, count: usize) -> &[Arc]
-        requires { first + count ≤ length (entries self.now.arcs) }
-        ensures { result.now ≡ take count (drop first (entries self.now.arcs)) }
+        requires { first + count ≤ length self.now.arcs }
+        ensures { result.now ≡ take count (drop first self.now.arcs) }
     {
         let arcs = self.arcs.as_slice();
         &arcs[first..first + count]

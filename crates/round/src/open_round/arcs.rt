@@ -1,5 +1,4 @@
 ghost use Rattle.std.specs.Prelude.{◌≡◌, ◌+◌, ◌<◌, ◌≤◌, [], ◌++◌, map, length, pos, neg_ℤ, MatchOption};
-ghost use Rattle.tables.specs.Tables.{entries};
 ghost use Rattle.flow.specs.declared.arc.Arc.{Arc as Drawing};
 ghost use Rattle.book.specs.declared.line.Line.{Line as Row};
 ghost use Rattle.book.specs.Books.{spot_of};
@@ -75,8 +74,8 @@ impl Draw for GetArcs {
 
 // Adds the arcs of the lines of a side.
 fn add_lines<T: Draw>(arcs: &mut Table<Arc, 448>, t: &T, lines: &[Line])
-    requires { length (entries arcs.old) + length lines.now ≤ 448 }
-    ensures { entries arcs.new ≡ entries arcs.old ++ map (T.Draw.drawn t.now) lines.now }
+    requires { length arcs.old + length lines.now ≤ 448 }
+    ensures { arcs.new ≡ arcs.old ++ map (T.Draw.drawn t.now) lines.now }
 {
     for l in lines {
         let _ = arcs.push(t.draw(*l));
@@ -97,8 +96,8 @@ impl OpenRound {
 
     // The give lines of an entry.
     pub(crate) fn give_lines(&self, entry: Entry) -> &[Line]
-        requires { entry.first + (entry.gives + entry.gets) ≤ length (entries self.now.lines) }
-        ensures { result.now ≡ (offer_of (entries self.now.lines) entry).give }
+        requires { entry.first + (entry.gives + entry.gets) ≤ length self.now.lines }
+        ensures { result.now ≡ (offer_of self.now.lines entry).give }
     {
         let first = entry.first as usize;
         let lines = self.lines.as_slice();
@@ -107,8 +106,8 @@ impl OpenRound {
 
     // The get lines of an entry.
     pub(crate) fn get_lines(&self, entry: Entry) -> &[Line]
-        requires { entry.first + (entry.gives + entry.gets) ≤ length (entries self.now.lines) }
-        ensures { result.now ≡ (offer_of (entries self.now.lines) entry).get }
+        requires { entry.first + (entry.gives + entry.gets) ≤ length self.now.lines }
+        ensures { result.now ≡ (offer_of self.now.lines entry).get }
     {
         let first = entry.first as usize + entry.gives as usize;
         let lines = self.lines.as_slice();
@@ -117,8 +116,8 @@ impl OpenRound {
 
     // Adds the arcs from each item to its holdings.
     fn add_holdings(&self, arcs: &mut Table<Arc, 448>)
-        requires { length (entries arcs.old) ≤ 320 }
-        ensures { entries arcs.new ≡ entries arcs.old ++ holding_arcs (length (book self.now).items) (book self.now).holdings no_flows.held }
+        requires { length arcs.old ≤ 320 }
+        ensures { arcs.new ≡ arcs.old ++ holding_arcs (length (book self.now).items) (book self.now).holdings no_flows.held }
     {
         let items = self.items.len();
         let holdings = self.holdings.as_slice();
@@ -137,9 +136,9 @@ impl OpenRound {
     // Adds the arcs of one offer: its give lines, its own, its get lines.
     fn add_offer(&self, arcs: &mut Table<Arc, 448>, entry: Entry, inside: u32)
         requires small { inside < 272 }
-        requires within { entry.first + (entry.gives + entry.gets) ≤ length (entries self.now.lines) }
-        requires room { length (entries arcs.old) + (entry.gives + entry.gets) < 448 }
-        ensures { entries arcs.new ≡ entries arcs.old ++ offer_arcs (length (book self.now).items) (book self.now).holdings inside (offer_of (entries self.now.lines) entry) (no_flows.offers 0) }
+        requires within { entry.first + (entry.gives + entry.gets) ≤ length self.now.lines }
+        requires room { length arcs.old + (entry.gives + entry.gets) < 448 }
+        ensures { arcs.new ≡ arcs.old ++ offer_arcs (length (book self.now).items) (book self.now).holdings inside (offer_of self.now.lines entry) (no_flows.offers 0) }
     {
         let give = GiveArcs {
             round: self,
@@ -161,14 +160,14 @@ impl OpenRound {
 
     // The entry of an offer.
     pub(crate) fn entry(&self, offer: u32) -> Option<Entry>
-        ensures { MatchOption result (length (book self.now).offers ≤ offer) (λ e. Entered (book self.now) (entries self.now.lines) offer e) }
+        ensures { MatchOption result (length (book self.now).offers ≤ offer) (λ e. Entered (book self.now) self.now.lines offer e) }
     {
         self.offers.get(offer as usize)
     }
 
     // The number of the first arc of an offer.
     pub(crate) fn first_arc(&self, offer: u32, entry: Entry) -> usize
-        requires { Entered (book self.now) (entries self.now.lines) offer entry }
+        requires { Entered (book self.now) self.now.lines offer entry }
         ensures { result ≡ give_at (book self.now) offer 0 }
     {
         self.holdings.len() + entry.first as usize + offer as usize
@@ -183,7 +182,7 @@ impl OpenRound {
 
     // The arcs of the round's network, with no flow on them.
     pub(crate) fn arcs(&self) -> Table<Arc, 448>
-        ensures { entries result ≡ arcs_of (book self.now) }
+        ensures { result ≡ arcs_of (book self.now) }
     {
         let mut arcs = no_arcs();
         self.add_holdings(&mut arcs);
@@ -197,7 +196,7 @@ impl OpenRound {
 }
 
 fn no_arcs() -> Table<Arc, 448>
-    ensures { entries result ≡ [] }
+    ensures { result ≡ [] }
 {
     Table::new(Arc {
         from: 0,

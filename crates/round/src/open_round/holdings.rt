@@ -1,5 +1,4 @@
 ghost use Rattle.std.specs.Prelude.{Decides};
-ghost use Rattle.tables.specs.Tables.{entries};
 ghost use Rattle.round.specs.Rounds.{book};
 ghost use Rattle.round.specs.Holdings.{Strange, Put, Holds, AnswersHolding};
 ghost use Rattle.round.specs.Uses.{RoundLaw};
@@ -12,7 +11,7 @@ use terms::holdings::{find_holding, units_held};
 
 // Puts a holding in the place of the one for the same pair, or at the end.
 fn put(holdings: &mut Table<Holding, 128>, h: Holding) -> Result<(), Refusal>
-    ensures { Put (entries holdings.old) (entries holdings.new) h result }
+    ensures { Put holdings.old holdings.new h result }
 {
     match find_holding(holdings.as_slice(), h.member, h.item) {
         Some(k) => {

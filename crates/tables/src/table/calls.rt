@@ -1,13 +1,22 @@
 ghost use Rattle.std.specs.Prelude.{◌≡◌, ◌≤◌, [], ◌∷◌, length};
-ghost use Rattle.tables.specs.Tables.{entries, unused, Found, Replaced, Added};
+ghost use Rattle.tables.specs.Tables.{Found, Replaced, Added};
 
 use super::super::refusal::Refusal;
 use super::Table;
 
+// A table without entries.
+impl<T: Copy + Default, const N: usize> Default for Table<T, N> {
+    ghost is_default = { λ t. t ≡ [] };
+
+    fn default() -> Self {
+        Table::new(T::default())
+    }
+}
+
 impl<T: Copy, const N: usize> Table<T, N> {
     // A table without entries. The filler only lies in the unused cells.
     pub fn new(filler: T) -> Self
-        ensures { entries result ≡ [] }
+        ensures { result ≡ [] }
     {
         Table {
             cells: [filler; N],
@@ -16,15 +25,17 @@ impl<T: Copy, const N: usize> Table<T, N> {
     }
 
     pub fn len(&self) -> usize
-        ensures count { result ≡ length (entries self.now) }
+        ensures count { result ≡ length self.now }
         ensures bound { result ≤ N }
     {
+        // the bound is known where a field is looked at
+        let _ = &self.len;
         self.as_slice().len()
     }
 
     // The entries themselves, to be gone through in order.
     pub fn as_slice(&self) -> &[T]
-        ensures { result.now ≡ entries self.now }
+        ensures { result.now ≡ self.now }
     {
         let cells = &self.cells[..];
         &cells[0..self.len]
@@ -32,19 +43,14 @@ impl<T: Copy, const N: usize> Table<T, N> {
 
     // Entry i, or nothing where there is none.
     pub fn get(&self, i: usize) -> Option<T>
-        ensures { Found (entries self.now) i result }
+        ensures { Found self.now i result }
     {
-        if i < self.len {
-            Some(self.cells[i])
-        } else {
-            None
-        }
+        self.as_slice().get(i).copied()
     }
 
     // Puts x in the place of entry i.
     pub fn set(&mut self, i: usize, x: T) -> Result<(), Refusal>
-        ensures outcome { Replaced (entries self.old) (entries self.new) i x result }
-        ensures kept { unused self.new ≡ unused self.old }
+        ensures { Replaced self.old self.new i x result }
     {
         if i < self.len {
             self.cells[i] = x;
@@ -56,7 +62,7 @@ impl<T: Copy, const N: usize> Table<T, N> {
 
     // Adds x at the end.
     pub fn push(&mut self, x: T) -> Result<(), Refusal>
-        ensures { Added N (entries self.old) (entries self.new) (x ∷ []) result }
+        ensures { Added N self.old self.new (x ∷ []) result }
     {
         let at = self.len;
         if at < N {
@@ -70,14 +76,15 @@ impl<T: Copy, const N: usize> Table<T, N> {
 
     // Adds all of `more` at the end, in order, or none of it.
     pub fn extend(&mut self, more: &[T]) -> Result<(), Refusal>
-        ensures { Added N (entries self.old) (entries self.new) more.now result }
+        ensures { Added N self.old self.new more.now result }
     {
-        if more.len() > N - self.len {
+        let at = self.len;
+        if more.len() > N - at {
             return Err(Refusal::Full);
         }
-        for x in more {
-            let _ = self.push(*x);
-        }
+        let cells = &mut self.cells[..];
+        cells[at..at + more.len()].copy_from_slice(more);
+        self.len = at + more.len();
         Ok(())
     }
 }

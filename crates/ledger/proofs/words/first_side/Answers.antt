@@ -1,6 +1,6 @@
 use Rattle.std.proofs.Common.{◌≡◌, refl, rules}
 use Rattle.ledger.specs.Spellings.{side_word}
-use Rattle.ledger.specs.declared.trade.Side.TheVariants.{Give, Get}
+use Rattle.book.specs.declared.side.Side.TheVariants.{Give, Get}
 use Rattle.ledger.proofs.Cuts.{no_cut, no_side, side_first}
 use Rattle.ledger.proofs.words.first_side.Goals as goal
 

@@ -1,15 +1,14 @@
 use Rattle.std.proofs.Common.{pos, ◌+ℤ◌, ap, ◌∙◌, subst, w64}
 use Rattle.std.proofs.lemmas.Int.{to_z-of_z}
-use Rattle.tables.specs.Tables.{entries, Replaced}
-use Rattle.flow.specs.Arcs.{blank}
-use Rattle.network.specs.Networks.{with_flow}
+use Rattle.tables.specs.Tables.{Replaced}
+use Rattle.flow.specs.Arcs.{blank, with_flow}
 use Rattle.network.proofs.Pushing.{push_goes}
 use Rattle.network.proofs.arcs.push.Goals as goal
 
 pub returns : goal.returns
 returns g c =
-    let before = entries c.args.arcs.now in
-    let after = entries c.set.new.self in
+    let before = c.args.arcs.now in
+    let after = c.set.new.self in
     let i = c.args.arc in
     let k = c.in-Some-pushed_flow.flow in
     let found = c.in-Some.found in

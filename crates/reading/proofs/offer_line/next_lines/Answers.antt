@@ -1,11 +1,10 @@
 use Rattle.std.proofs.Common.{suc, ◌+◌, ◌-◌, arith}
 use Rattle.std.proofs.lemmas.Result.{err_from_is_err_and}
-use Rattle.tables.specs.Tables.{entries}
 use Rattle.reading.proofs.Sides.{begin, again, stopped}
 use Rattle.reading.proofs.offer_line.next_lines.Goals as goal
 
 pub loop-init : goal.loop-init
-loop-init c = begin c.args.items c.args.give.now c.args.n (entries c.no_lines-lines.result) (entries c.args.units.now) c.args.reader.now c.no_lines-lines.ensures
+loop-init c = begin c.args.items c.args.give.now c.args.n c.no_lines-lines.result c.args.units.now c.args.reader.now c.no_lines-lines.ensures
 
 pub returns-in_err-filled : goal.returns-in_err-filled
 returns-in_err-filled c =

@@ -1,6 +1,5 @@
 use Rattle.std.proofs.Common.{◌≡◌, ◌<◌, length, arith}
 use Rattle.std.proofs.lemmas.Result.{err_from_is_err_and}
-use Rattle.tables.specs.Tables.{entries}
 use Rattle.layout.specs.Records.{Contents, book_of}
 use Rattle.round.specs.Rounds.{book}
 use Rattle.reading.specs.Held.{units_in}
@@ -12,14 +11,14 @@ pub returns-in_err-head : goal.returns-in_err-head
 returns-in_err-head c x e u few =
     let p = err_from_is_err_and c.from_residual.result c.from_residual.ensures.1 in
     let members = members_known x (book c.args.round.now) c.member_count.result e c.member_count.ensures in
-    let lines = lines_known x (entries c.args.units.now) c.len.result u c.len.ensures.count in
+    let lines = lines_known x c.args.units.now c.len.result u c.len.ensures.count in
     rw (p.1, p.2) (c.in_err-head.ensures.read x members lines)
 
 -- the head was read
-after-head : (c : goal.In_ok-head) (x : Contents) → book_of x ≡ book c.args.round.now → units_in x.offers ≡ entries c.args.units.now → length x.offers < 64 → Begun x (entries c.args.units.now) c.in_ok-head.head c.item_count-items.result c.args.reader.now c.next_offer_head.new.reader
+after-head : (c : goal.In_ok-head) (x : Contents) → book_of x ≡ book c.args.round.now → units_in x.offers ≡ c.args.units.now → length x.offers < 64 → Begun x c.args.units.now c.in_ok-head.head c.item_count-items.result c.args.reader.now c.next_offer_head.new.reader
 after-head c x e u few =
     let head = c.in_ok-head.ensures in
-    begun x (book c.args.round.now) (entries c.args.units.now) c.item_count-items.result c.member_count.result c.len.result c.in_ok-head.head c.args.reader.now c.next_offer_head.new.reader e u few c.item_count-items.ensures c.member_count.ensures c.len.ensures.count head.fair head.read
+    begun x (book c.args.round.now) c.args.units.now c.item_count-items.result c.member_count.result c.len.result c.in_ok-head.head c.args.reader.now c.next_offer_head.new.reader e u few c.item_count-items.ensures c.member_count.ensures c.len.ensures.count head.fair head.read
 
 pub returns-in_err-give : goal.returns-in_err-give
 returns-in_err-give c x e u few =

@@ -1,12 +1,11 @@
 use Rattle.std.proofs.Common.{arith}
 use Rattle.std.proofs.lemmas.Result.{err_from_is_err_and}
-use Rattle.tables.specs.Tables.{entries}
 use Rattle.round.specs.Rounds.{book}
 use Rattle.reading.proofs.Offered.{begin, again, stopped, gathered}
 use Rattle.reading.proofs.offers.next_offers.Goals as goal
 
 pub loop-init : goal.loop-init
-loop-init c = begin c.args.n c.args.reader.now (book c.args.round.now) (entries c.args.units.now)
+loop-init c = begin c.args.n c.args.reader.now (book c.args.round.now) c.args.units.now
 
 pub loop-preserved : goal.loop-preserved
 loop-preserved c = again c.args.n c.loop.counter c.loop.invariant c.loop-test.true c.in_ok-next_offer.ensures

@@ -1,6 +1,5 @@
 use Rattle.std.proofs.Common.{◌≡◌, ◌<◌, List, [], ◌∷◌, ◌++◌, map, length, take, ℤ, sym, refl, ap, ◌∙◌, arith}
 use Rattle.std.proofs.lemmas.List.{take_all, map_more, length-map, length-take-le}
-use Rattle.tables.specs.Tables.{entries}
 use Rattle.tables.proofs.Entries.{grew}
 use Rattle.reading.specs.Levels.{numbers}
 use Rattle.reading.specs.declared.level.Level.{Level}
@@ -20,8 +19,8 @@ loop-l-preserved g c le =
     let k = c.loop-l.l-index in
     let worth = g.W.Levelled.worth in
     let before = c.loop-l.invariant le in
-    let few : length (entries c.loop-l.worths) < 272 = omega (arith, ap length before, length-map (take k ls) worth, length-take-le k ls (omega arith)) in
-    grew 272 (entries c.loop-l.worths) (entries c.push.new.self) (c.from_level.result ∷ []) c.push.result c.push.ensures (omega arith)
+    let few : length c.loop-l.worths < 272 = omega (arith, ap length before, length-map (take k ls) worth, length-take-le k ls (omega arith)) in
+    grew 272 c.loop-l.worths c.push.new.self (c.from_level.result ∷ []) c.push.result c.push.ensures (omega arith)
     ∙ (λ i. before i ++ c.from_level.ensures i ∷ [])
     ∙ sym (map_more worth ls k _ (omega arith))
 

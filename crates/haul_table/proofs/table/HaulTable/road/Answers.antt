@@ -2,7 +2,8 @@ use Rattle.std.proofs.Common.{◌≡◌, ap, ◌∙◌, arith, w64}
 use Rattle.std.proofs.lemmas.Result.{err_from_is_err_and}
 use Rattle.std.proofs.lemmas.Int.{to_z-of_z}
 use Rattle.flow.specs.declared.arc.Arc.{Arc}
-use Rattle.haul_table.specs.Roads.{hauled, fresh}
+use Rattle.flow.specs.Arcs.{fresh}
+use Rattle.haul_table.specs.Roads.{hauled}
 use Rattle.haul_table.proofs.Admitting.{admitted, road_made, road_refused}
 use Rattle.haul_table.proofs.Standing.{law_holds}
 use Rattle.haul_table.proofs.table.HaulTable.road.Goals as goal

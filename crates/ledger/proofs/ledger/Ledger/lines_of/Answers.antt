@@ -1,6 +1,5 @@
 use Rattle.std.proofs.Common.{◌≡◌, ◌+◌, ◌<◌, ◌≤◌, true, [], ◌∷◌, ◌++◌, length, get_or, take, sym, ap, ◌∙◌, subst, arith}
 use Rattle.std.proofs.lemmas.List.{take_all, length-take}
-use Rattle.tables.specs.Tables.{entries}
 use Rattle.tables.proofs.Entries.{grew}
 use Rattle.ledger.specs.Ledgers.{listed}
 use Rattle.ledger.specs.Trades.{lines_of, all_sound}
@@ -15,17 +14,17 @@ loop-trade-preserved c =
     let i = c.loop-trade.trade-index in
     let e = c.as_slice-trade-items.ensures in
     let within : i < length ts = omega (arith, ap length e) in
-    let room : length (entries c.loop-trade.lines) + 1 ≤ 256 = omega (arith, ap length c.loop-trade.invariant, kept_few k (take i ts), length-take i ts, few c.args.self.now) in
+    let room : length c.loop-trade.lines + 1 ≤ 256 = omega (arith, ap length c.loop-trade.invariant, kept_few k (take i ts), length-take i ts, few c.args.self.now) in
     let same = ap (λ xs. get_or xs i blank) e in
     elim c.if-trade-offer.branch [
       | then-trade-offer w ↦
-          ap entries w.lines-is
+          ap w.lines-is
           ∙ grew 256 _ _ _ _ w.push.ensures room
           ∙ ap (λ xs. xs ++ get_or c.as_slice-trade-items.result.now i blank ∷ []) c.loop-trade.invariant
           ∙ ap (λ t. lines_of k (take i ts) ++ t ∷ []) same
           ∙ sym (kept_next k ts i within (sym (ap (λ t. t.offer) same) ∙ w.if-trade-offer.true))
       | else-trade-offer w ↦
-          ap entries w.lines-is ∙ c.loop-trade.invariant ∙ sym (skipped_next k ts i within (λ p. w.if-trade-offer.false (ap (λ t. t.offer) same ∙ p)))
+          ap w.lines-is ∙ c.loop-trade.invariant ∙ sym (skipped_next k ts i within (λ p. w.if-trade-offer.false (ap (λ t. t.offer) same ∙ p)))
     ]
 
 pub invariant_of-result : goal.invariant_of-result

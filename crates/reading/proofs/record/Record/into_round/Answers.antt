@@ -1,8 +1,7 @@
 use Rattle.std.proofs.Common.{sym}
-use Rattle.tables.specs.Tables.{entries}
 use Rattle.round.specs.Rounds.{book}
 use Rattle.reading.proofs.Helds.{book_held}
 use Rattle.reading.proofs.record.Record.into_round.Goals as goal
 
 pub returns : goal.returns
-returns c = let r = c.args.self in sym (book_held r.kind (book r.round) (entries r.units) (entries r.levels))
+returns c = let r = c.args.self in sym (book_held r.kind (book r.round) r.units r.levels)

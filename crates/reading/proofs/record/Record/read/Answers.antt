@@ -1,6 +1,5 @@
 use Rattle.std.proofs.Common.{inr}
 use Rattle.std.proofs.lemmas.Result.{err_from_is_err_and}
-use Rattle.tables.specs.Tables.{entries}
 use Rattle.layout.specs.Layout.{nothing}
 use Rattle.layout.proofs.Renders.{reads_records}
 use Rattle.round.specs.Rounds.{book}
@@ -34,7 +33,7 @@ invariant_of-result c =
     let opened = c.in_ok-open.ensures in
     let parts = c.in_ok-round.field-0 in
     let reads = from_start text c.open.new.self opened.outcome _ (c.in_ok-kind.ensures nothing after_kind _ c.in_ok-round.ensures.read) in
-    record { valid = ∣ ((reads_records text (held c.in_ok-kind.kind (book parts.round) (entries parts.units) (entries parts.levels))).0 (not_long text opened.refused, reads)).1 ∣₁; counted = c.in_ok-round.ensures.counted }
+    record { valid = ∣ ((reads_records text (held c.in_ok-kind.kind (book parts.round) parts.units parts.levels)).0 (not_long text opened.refused, reads)).1 ∣₁; counted = c.in_ok-round.ensures.counted }
 
 pub returns : goal.returns
 returns c =

@@ -1,8 +1,7 @@
 use Rattle.std.proofs.Common.{sym, ◌∙◌}
-use Rattle.tables.specs.Tables.{entries}
 use Rattle.round.specs.Rounds.{book}
 use Rattle.reading.proofs.Helds.{units_held}
 use Rattle.reading.proofs.record.Record.units.Goals as goal
 
 pub returns : goal.returns
-returns c = let r = c.args.self.now in c.as_slice.ensures ∙ sym (units_held (book r.round).offers (entries r.units) r.counted)
+returns c = let r = c.args.self.now in c.as_slice.ensures ∙ sym (units_held (book r.round).offers r.units r.counted)

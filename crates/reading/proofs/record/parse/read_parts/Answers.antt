@@ -1,6 +1,5 @@
 use Rattle.std.proofs.Common.{[], ◌∷◌, map, length, sym, ap, ◌∙◌, subst, arith}
 use Rattle.std.proofs.lemmas.Result.{err_from_is_err_and}
-use Rattle.tables.specs.Tables.{entries}
 use Rattle.text.specs.declared.section.Section.TheVariants.{Levels}
 use Rattle.book.specs.Arcs.{nodes}
 use Rattle.book.specs.Books.{line_count}
@@ -42,7 +41,7 @@ returns-in_err-read_end c =
     let g = c.in_ok-round.ensures c.args.kind in
     let o = c.in_ok-read_offers.ensures g.contents (head Levels ∷ []) g.holds (ap length g.stays.offers) c.new-units.ensures in
     let l = c.in_ok-levels.ensures o.contents [] (o.kind ∙ g.stays.kind) (ap nodes o.holds ∙ sym c.nodes.ensures) (ap length (o.levels ∙ g.stays.levels)) in
-    let s = c.in_err-read_end.ensures (with_levels o.contents (map (numbers (kind_as c.args.kind)) (entries c.in_ok-levels.levels))) in
+    let s = c.in_err-read_end.ensures (with_levels o.contents (map (numbers (kind_as c.args.kind)) c.in_ok-levels.levels)) in
     rw (p.1, p.2) (record { read = g.onward _ (o.onward _ (l _ s)); counted = tt })
 
 pub returns : goal.returns
@@ -51,7 +50,7 @@ returns c =
     let g = c.in_ok-round.ensures k in
     let o = c.in_ok-read_offers.ensures g.contents (head Levels ∷ []) g.holds (ap length g.stays.offers) c.new-units.ensures in
     let l = c.in_ok-levels.ensures o.contents [] (o.kind ∙ g.stays.kind) (ap nodes o.holds ∙ sym c.nodes.ensures) (ap length (o.levels ∙ g.stays.levels)) in
-    let levels = entries c.in_ok-levels.levels in
+    let levels = c.in_ok-levels.levels in
     let s = c.in_ok-read_end.ensures (with_levels o.contents (map (numbers (kind_as k)) levels)) in
     let before = c.args.reader.now in
     record {

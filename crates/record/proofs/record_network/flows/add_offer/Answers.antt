@@ -1,5 +1,4 @@
 use Rattle.std.proofs.Common.{◌∷◌, ◌++◌, ap, ◌∙◌}
-use Rattle.tables.specs.Tables.{entries}
 use Rattle.record.proofs.Flowing.{offer_added}
 use Rattle.record.proofs.Giving.{total_fits}
 use Rattle.record.proofs.record_network.flows.add_offer.Goals as goal
@@ -9,8 +8,8 @@ total-requires c = total_fits c.args.offer.give.now c.args.offer.given.now c.req
 
 pub returns : goal.returns
 returns c =
-    let start = entries c.args.flows.now in
+    let start = c.args.flows.now in
     let given = c.args.offer.given.now in
     let got = c.args.offer.got.now in
-    offer_added start (entries c.extend.new.self) (entries c.push.new.self) (entries c.extend-2.new.self) given got c.total.result c.extend.result c.push.result c.extend-2.result c.requires.room c.extend.ensures c.push.ensures c.extend-2.ensures
+    offer_added start c.extend.new.self c.push.new.self c.extend-2.new.self given got c.total.result c.extend.result c.push.result c.extend-2.result c.requires.room c.extend.ensures c.push.ensures c.extend-2.ensures
     ∙ ap (λ y. start ++ (given ++ (y ∷ got))) c.total.ensures

@@ -1,6 +1,5 @@
 use Rattle.std.proofs.Common.{map, length, ap, ◌∙◌, arith}
 use Rattle.std.proofs.lemmas.List.{take_all}
-use Rattle.tables.specs.Tables.{entries}
 use Rattle.reading.specs.Contents.{contents}
 use Rattle.record.specs.Flows.{given_from}
 use Rattle.record.proofs.Flowing.{held_more}
@@ -11,7 +10,7 @@ pub loop-h-preserved : goal.loop-h-preserved
 loop-h-preserved c =
     let r = c.args.record.now in
     let x = contents r in
-    held_more (given_from x) x.holdings c.held-h-items.result.now c.loop-h.h-index _ (entries c.loop-h.flows) (entries c.push.new.self) c.given_from.result c.push.result
+    held_more (given_from x) x.holdings c.held-h-items.result.now c.loop-h.h-index _ c.loop-h.flows c.push.new.self c.given_from.result c.push.result
     (c.held-h-items.ensures ∙ ap (λ b. b.holdings) c.terms.ensures) (bounded r).holdings c.loop-h-test.true c.loop-h.invariant c.given_from.ensures c.push.ensures
 
 pub returns : goal.returns

@@ -1,8 +1,7 @@
 use Rattle.std.proofs.Common.{◌≡◌, map, take}
-use Rattle.tables.specs.Tables.{entries}
 use Rattle.reading.specs.Contents.{contents}
 use Rattle.record.specs.Flows.{given_from}
 use Rattle.record.proofs.record_network.flows.holding_flows.Given as goal
 
 abbrev pub invariant-loop-h : goal.invariant-loop-h
-invariant-loop-h l = entries l.flows ≡ map (given_from (contents l.record)) (take l.h-index (contents l.record).holdings)
+invariant-loop-h l = l.flows ≡ map (given_from (contents l.record)) (take l.h-index (contents l.record).holdings)

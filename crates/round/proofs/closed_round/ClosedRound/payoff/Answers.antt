@@ -2,7 +2,7 @@ use Rattle.std.proofs.Common.{◌*◌, cond, eqb, pos, ◌-ℤ◌, refl, ◌∙�
 use Rattle.std.proofs.lemmas.Int.{to_z-of_z}
 use Rattle.tables.proofs.Firsts.{next}
 use Rattle.round.specs.Closed.{closed_book, closed_allotment}
-use Rattle.round.specs.declared.side.Side.TheVariants.{Give, Get}
+use Rattle.book.specs.declared.side.Side.TheVariants.{Give, Get}
 use Rattle.round.proofs.Sides.{side_sum}
 use Rattle.round.proofs.closed_round.ClosedRound.payoff.Goals as goal
 

@@ -1,6 +1,5 @@
 use Rattle.std.proofs.Common.{◌≡◌, ◌+◌, true, List, ◌++◌, map, length, sym, ap, ◌∙◌, subst, arith}
 use Rattle.std.proofs.lemmas.List.{append-nil, length-map, take_all}
-use Rattle.tables.specs.Tables.{entries}
 use Rattle.tables.proofs.Entries.{length_entries}
 use Rattle.book.specs.Arcs.{holding_arcs, offers_arcs, no_flows}
 use Rattle.terms.specs.Names.{letters}
@@ -20,7 +19,7 @@ pub add_offer-requires : goal.add_offer-requires
 add_offer-requires c =
     let r = c.args.self.now in
     let es = c.as_slice-offers.result.now in
-    let ls = entries r.lines in
+    let ls = r.lines in
     let rows : in_rows 0 es (length ls) ≡ true = subst (λ (xs : List Entry). in_rows 0 xs (length ls) ≡ true) (sym c.as_slice-offers.ensures) r.rows in
     let lt = c.loop-k-test.true in
     let few = length_entries r.offers in
@@ -28,19 +27,19 @@ add_offer-requires c =
     record {
       small = omega arith;
       within = (rows_at 0 es ls c.loop-k.k _ rows lt).1;
-      room = front_room (length (book r).items) (book r).holdings ls es c.loop-k.k _ (entries c.loop-k.arcs) c.loop-k.invariant lt (omega (arith, length_entries r.holdings)) (omega (arith, length_entries r.lines)) (omega arith) rows;
+      room = front_room (length (book r).items) (book r).holdings ls es c.loop-k.k _ c.loop-k.arcs c.loop-k.invariant lt (omega (arith, length_entries r.holdings)) (omega (arith, length_entries r.lines)) (omega arith) rows;
     }
 
 pub loop-k-preserved : goal.loop-k-preserved
 loop-k-preserved c =
     let r = c.args.self.now in
     let es = c.as_slice-offers.result.now in
-    let items = length-map (entries r.items) letters in
-    front_more (length (book r).items) (book r).holdings (entries r.lines) es c.loop-k.k _ (entries c.loop-k.arcs) c.loop-k.invariant c.loop-k-test.true (entries c.add_offer.new.arcs) _ (omega arith) c.add_offer.ensures
+    let items = length-map r.items letters in
+    front_more (length (book r).items) (book r).holdings r.lines es c.loop-k.k _ c.loop-k.arcs c.loop-k.invariant c.loop-k-test.true c.add_offer.new.arcs _ (omega arith) c.add_offer.ensures
 
 pub returns : goal.returns
 returns c =
     let r = c.args.self.now in
     let b = book r in
     let held = holding_arcs (length b.items) b.holdings no_flows.held in
-    c.loop-k.invariant ∙ ap (λ xs. held ++ offers_arcs (length b.items) b.holdings (length b.items + length b.holdings) (map (offer_of (entries r.lines)) xs) no_flows.offers) (take_all c.loop-k.k c.as_slice-offers.result.now (omega arith) ∙ c.as_slice-offers.ensures)
+    c.loop-k.invariant ∙ ap (λ xs. held ++ offers_arcs (length b.items) b.holdings (length b.items + length b.holdings) (map (offer_of r.lines) xs) no_flows.offers) (take_all c.loop-k.k c.as_slice-offers.result.now (omega arith) ∙ c.as_slice-offers.ensures)

@@ -1,6 +1,6 @@
 use Rattle.std.proofs.Common.{◌≡◌, ℕ, ◌≤◌, true, List, map, length, Some, None, Option, arith, MatchOption}
 use Rattle.std.proofs.lemmas.List.{length-map}
-use Rattle.tables.specs.Tables.{entries, Found}
+use Rattle.tables.specs.Tables.{Found}
 use Rattle.book.specs.Books.{Book}
 use Rattle.book.specs.declared.line.Line.{Line}
 use Rattle.round.specs.Kept.{offer_of, in_rows, Entered}
@@ -16,4 +16,4 @@ either b ls es k (Some e) h f = entered b ls es k e h f.0 f.1
 pub returns : goal.returns
 returns c =
     let r = c.args.self.now in
-    either (book r) (entries r.lines) (entries r.offers) c.args.offer c.get.result r.rows c.get.ensures
+    either (book r) r.lines r.offers c.args.offer c.get.result r.rows c.get.ensures

@@ -1,6 +1,5 @@
 use Rattle.std.proofs.Common.{arith}
 use Rattle.std.proofs.lemmas.List.{length-map}
-use Rattle.tables.specs.Tables.{entries}
 use Rattle.terms.specs.Names.{letters}
 use Rattle.round.specs.Kept.{offer_of}
 use Rattle.round.proofs.open_round.OpenRound.nodes.Goals as goal
@@ -8,4 +7,4 @@ use Rattle.round.proofs.open_round.OpenRound.nodes.Goals as goal
 pub returns : goal.returns
 returns c =
     let r = c.args.self.now in
-    omega (arith, length-map (entries r.items) letters, length-map (entries r.offers) (offer_of (entries r.lines)))
+    omega (arith, length-map r.items letters, length-map r.offers (offer_of r.lines))

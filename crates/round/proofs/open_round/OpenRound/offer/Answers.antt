@@ -1,6 +1,5 @@
 use Rattle.std.proofs.Common.{Ok, refl, arith}
 use mathlib.Core.Logic.{∥∥₁_map}
-use Rattle.tables.specs.Tables.{entries}
 use Rattle.round.specs.Offering.{made}
 use Rattle.round.specs.Rounds.{book}
 use Rattle.round.proofs.Calls.{offer_taken, offer_rows}
@@ -28,11 +27,11 @@ invariant_of-self c =
     let get = c.args.get.now in
     let m = c.args.member in
     let l = c.args.limit in
-    let es = entries r.offers in
-    let es' = entries c.push.new.self in
-    let ls = entries r.lines in
-    let ls1 = entries c.extend.new.self in
-    let ls2 = entries c.extend-2.new.self in
+    let es = r.offers in
+    let es' = c.push.new.self in
+    let ls = r.lines in
+    let ls1 = c.extend.new.self in
+    let ls2 = c.extend-2.new.self in
     let k = c.len-first.result in
     let taken = offer_taken (book r) es es' ls ls1 ls2 give get m l k c.extend.result c.extend-2.result c.push.result r.rows c.len-first.ensures.count c.in_default.ensures c.extend.ensures c.extend-2.ensures c.push.ensures c.len-n.result c.len-n.ensures.count in record { sound = ∥∥₁_map r.sound (sound_offer (book r) _ (made m l give get) (Ok c.len-n.result) taken); rows = offer_rows (book r) es es' ls ls1 ls2 give get m l k c.extend.result c.extend-2.result c.push.result r.rows c.len-first.ensures.count c.in_default.ensures c.extend.ensures c.extend-2.ensures c.push.ensures }
 
@@ -41,7 +40,7 @@ returns c =
     let r = c.args.self.now in
     record {
       outcome =
-          offer_taken (book r) (entries r.offers) (entries c.push.new.self) (entries r.lines) (entries c.extend.new.self) (entries c.extend-2.new.self) c.args.give.now c.args.get.now c.args.member c.args.limit c.len-first.result
+          offer_taken (book r) r.offers c.push.new.self r.lines c.extend.new.self c.extend-2.new.self c.args.give.now c.args.get.now c.args.member c.args.limit c.len-first.result
           c.extend.result c.extend-2.result c.push.result r.rows c.len-first.ensures.count c.in_default.ensures c.extend.ensures c.extend-2.ensures c.push.ensures c.len-n.result c.len-n.ensures.count;
       law = round_law;
     }

@@ -1,6 +1,5 @@
 use Rattle.std.proofs.Common.{◌≡◌, ◌+◌, map, length, ap, ◌∙◌, arith}
 use Rattle.std.proofs.lemmas.List.{length-map}
-use Rattle.tables.specs.Tables.{entries}
 use Rattle.tables.proofs.Entries.{length_entries}
 use Rattle.book.specs.Books.{spot_of}
 use Rattle.book.specs.Arcs.{source, give_capacity}
@@ -21,7 +20,7 @@ overflow_cast-result c =
 pub returns-in-Some : goal.returns-in-Some
 returns-in-Some c =
     let l = c.args.l in
-    let items = length-map (entries c.args.self.now.items) letters in
+    let items = length-map c.args.self.now.items letters in
     let e = c.in-Some.ensures ∙ ap (λ hs. spot_of hs c.args.member l.item) c.as_slice.ensures in
-    let sum : c.len.result + c.in-Some.k ≡ length (map letters (entries c.args.self.now.items)) + c.in-Some.k = omega arith in
-    record { node = sum ∙ ap (λ spot. source spot (length (map letters (entries c.args.self.now.items))) l.item) e; capacity = ap (λ spot. give_capacity spot l) e }
+    let sum : c.len.result + c.in-Some.k ≡ length (map letters c.args.self.now.items) + c.in-Some.k = omega arith in
+    record { node = sum ∙ ap (λ spot. source spot (length (map letters c.args.self.now.items)) l.item) e; capacity = ap (λ spot. give_capacity spot l) e }

@@ -1,7 +1,6 @@
 use Rattle.std.proofs.Common.{length, refl, ap, ◌∙◌, arith}
 use mathlib.Core.Logic.{∥∥₁_map}
 use Rattle.std.proofs.lemmas.List.{length-map}
-use Rattle.tables.specs.Tables.{entries}
 use Rattle.tables.proofs.Firsts.{here}
 use Rattle.tables.proofs.Entries.{replaced}
 use Rattle.round.specs.Kept.{offer_of, in_rows}
@@ -14,27 +13,27 @@ use Rattle.round.proofs.open_round.OpenRound.withdraw.Goals as goal
 
 pub returns-in_default : goal.returns-in_default
 returns-in_default c =
-    let es = entries c.args.self.now.offers in
+    let es = c.args.self.now.offers in
     let past = c.in_default.ensures in
-    record { outcome = record { refused = here (omega (arith, length-map es (offer_of (entries c.args.self.now.lines)))); outcome = refl }; law = round_law }
+    record { outcome = record { refused = here (omega (arith, length-map es (offer_of c.args.self.now.lines))); outcome = refl }; law = round_law }
 
 pub returns-then-entry-eq0 : goal.returns-then-entry-eq0
 returns-then-entry-eq0 c =
     let r = c.args.self.now in
     let found = c.in-Some.ensures in
-    record { outcome = withdrawn_already (book r) (entries r.lines) (entries r.offers) c.args.offer c.in-Some.entry found.0 found.1 c.if-entry-eq0.true; law = round_law }
+    record { outcome = withdrawn_already (book r) r.lines r.offers c.args.offer c.in-Some.entry found.0 found.1 c.if-entry-eq0.true; law = round_law }
 
 pub invariant_of-self : goal.invariant_of-self
 invariant_of-self c =
     let r = c.args.self.now in
-    let es = entries r.offers in
-    let ls = entries r.lines in
+    let es = r.offers in
+    let ls = r.lines in
     let k = c.args.offer in
     let e = c.in-Some.entry in
     let found = c.in-Some.ensures in
-    let done = entry_stopped (book r) ls es k e found.0 found.1 (entries c.set.new.self) c.set.result c.if-entry-eq0.false c.set.ensures.outcome in record {
+    let done = entry_stopped (book r) ls es k e found.0 found.1 c.set.new.self c.set.result c.if-entry-eq0.false c.set.ensures.outcome in record {
       sound = ∥∥₁_map r.sound (sound_withdraw (book r) _ k c.set.result done);
-      rows = ap (λ xs. in_rows 0 xs (length ls)) (replaced es (entries c.set.new.self) k (stopped e) c.set.result c.set.ensures.outcome found.0)
+      rows = ap (λ xs. in_rows 0 xs (length ls)) (replaced es c.set.new.self k (stopped e) c.set.result c.set.ensures.outcome found.0)
           ∙ rows_stopped 0 es (length ls) k e found.1 ∙ r.rows;
     }
 
@@ -42,4 +41,4 @@ pub returns : goal.returns
 returns c =
     let r = c.args.self.now in
     let found = c.in-Some.ensures in
-    record { outcome = entry_stopped (book r) (entries r.lines) (entries r.offers) c.args.offer c.in-Some.entry found.0 found.1 (entries c.set.new.self) c.set.result c.if-entry-eq0.false c.set.ensures.outcome; law = round_law }
+    record { outcome = entry_stopped (book r) r.lines r.offers c.args.offer c.in-Some.entry found.0 found.1 c.set.new.self c.set.result c.if-entry-eq0.false c.set.ensures.outcome; law = round_law }

@@ -1,5 +1,4 @@
 use Rattle.std.proofs.Common.{ap, ◌∙◌}
-use Rattle.tables.specs.Tables.{entries}
 use Rattle.book.specs.Books.{spot_of}
 use Rattle.round.proofs.Calls.{put_there}
 use Rattle.round.proofs.open_round.holdings.put.Goals as goal
@@ -7,5 +6,5 @@ use Rattle.round.proofs.open_round.holdings.put.Goals as goal
 pub returns-else-h-gt1000 : goal.returns-else-h-gt1000
 returns-else-h-gt1000 c =
     let h = c.args.h in
-    put_there (entries c.args.holdings.now) (entries c.set.new.self) h c.in-Some.k c.set.result
+    put_there c.args.holdings.now c.set.new.self h c.in-Some.k c.set.result
     (c.in-Some.ensures ∙ ap (λ hs. spot_of hs h.member h.item) c.as_slice.ensures) c.if-h-gt1000.false c.set.ensures.outcome

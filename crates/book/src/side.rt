@@ -1,5 +1,5 @@
 // The two sides of an offer.
-#[derive(Clone, Copy)]
+#[derive(Clone, Copy, Debug, PartialEq, Eq)]
 pub enum Side {
     Give,
     Get,

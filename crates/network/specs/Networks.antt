@@ -3,7 +3,7 @@ use Rattle.std.specs.Prelude.{ℕ, ◌<◌, ◌≤◌, List, length, pos, negsuc
 use Rattle.worth.specs.Kinds.{Ops}
 use Rattle.flow.specs.declared.arc.Arc.{Arc}
 use Rattle.flow.specs.Graphs.{Graph, worth}
-use Rattle.flow.specs.Arcs.{arc_at, flow_of, net}
+use Rattle.flow.specs.Arcs.{arc_at, flow_of, net, with_flow}
 
 -- nodes, numbered from 0, and a list of arcs between them
 pub record Net : Type 0 where

@@ -2,4 +2,3 @@ pub mod Reading
 pub mod Worths
 pub mod Circulations
 pub mod Fitting
-pub mod Pushing

@@ -9,16 +9,8 @@ use tables::table::Table;
 fn pushed_flow(flow: u32, capacity: u32, by: i64) -> Option<u32>
     ensures { MatchOption result (((pos flow +ℤ by) <ℤ pos 0) ⊎ (pos capacity <ℤ (pos flow +ℤ by))) (λ k. (pos k ≡ (pos flow +ℤ by)) × (k ≤ capacity)) }
 {
-    let most = i64::from(u32::MAX);
-    if by < -most || by > most {
-        return None;
-    }
-    let sum = i64::from(flow) + by;
-    if sum < 0 || sum > i64::from(capacity) {
-        None
-    } else {
-        Some(sum as u32)
-    }
+    let sum = i64::from(flow).checked_add(by)?;
+    u32::try_from(sum).ok().filter(|k| *k <= capacity)
 }
 
 // What push does for a network that keeps its arcs in a table.
@@ -26,11 +18,7 @@ pub fn push<const N: usize>(arcs: &mut Table<Arc, N>, arc: u32, by: i64) -> Resu
     ensures { ArcsPushed arcs.old arcs.new arc by result }
 {
     let i = arc as usize;
-    let Some(found) = arcs.get(i) else {
-        return Err(Refusal::Unknown);
-    };
-    let Some(flow) = pushed_flow(found.flow, found.capacity, by) else {
-        return Err(Refusal::Rule);
-    };
+    let found = arcs.get(i).ok_or(Refusal::Unknown)?;
+    let flow = pushed_flow(found.flow, found.capacity, by).ok_or(Refusal::Rule)?;
     arcs.set(i, found.with_flow(flow))
 }

@@ -5,7 +5,6 @@ use Rattle.book.specs.Books.{Book, Offer, no_offer}
 use Rattle.book.specs.Arcs.{arcs_of, give_at}
 use Rattle.book.specs.declared.line.Line.{Line}
 use Rattle.book.specs.declared.holding.Holding.{Holding}
-use Rattle.terms.specs.Names.{letters}
 use Rattle.terms.specs.declared.name.Name.{Name}
 use Rattle.round.specs.declared.entry.Entry.{Entry}
 
@@ -15,7 +14,7 @@ offer_of ls e = record { member = e.member; limit = e.limit; give = take e.gives
 
 -- the book that the five tables stand for
 abbrev pub book_of : Table Name 16 → Table Name 32 → Table Holding 128 → Table Entry 64 → Table Line 256 → Book
-book_of items members holdings offers lines = record { items = map letters items; members = map letters members; holdings = holdings; offers = map (offer_of lines) offers }
+book_of items members holdings offers lines = record { items = items; members = members; holdings = holdings; offers = map (offer_of lines) offers }
 
 -- the lines of the entries stand one behind the other from n on, and end at m
 abbrev pub in_rows : ℕ → List Entry → ℕ → Bool

@@ -1,6 +1,6 @@
 -- What a name says.
 use Rattle.std.specs.Prelude.{◌≡◌, ℕ, ◌-◌, ◌≤◌, List, ◌++◌, length, take, drop, replicate}
-use Rattle.std.proofs.Common.{ap, ap₂, ◌∙◌, sym, arith, take-append-drop}
+use Rattle.std.proofs.Common.{ap, ◌∙◌, sym, arith, take-append-drop}
 use Rattle.std.proofs.lemmas.List.{length-take-le}
 use Rattle.terms.specs.declared.name.Name.TheInside.{Inside}
 

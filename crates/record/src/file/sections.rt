@@ -1,5 +1,4 @@
 ghost use Rattle.std.specs.Prelude.{◌∷◌, map, length};
-ghost use Rattle.terms.specs.Names.{letters};
 ghost use Rattle.text.specs.declared.section.Section.TheVariants.{Holdings, Levels};
 ghost use Rattle.layout.specs.Layout.{head, holding as a_holding, level as a_level, spell};
 ghost use Rattle.layout.specs.Render.{section as section_of, kind_section};
@@ -34,7 +33,7 @@ pub(super) fn write_kind(buffer: &mut Buffer, kind: Kind)
 
 // A section of names, that of the items or that of the members.
 pub(super) fn write_names(buffer: &mut Buffer, section: Section, names: &[Name])
-    ensures { Adds buffer.old buffer.new (spell (head section) (length names.now) ∷ map letters names.now) }
+    ensures { Adds buffer.old buffer.new (spell (head section) (length names.now) ∷ names.now) }
 {
     write_head(buffer, section, names.len());
     for name in names {

@@ -1,5 +1,4 @@
 ghost use Rattle.std.specs.Prelude.{◌≤◌, map};
-ghost use Rattle.terms.specs.Names.{letters};
 ghost use Rattle.round.specs.Rounds.{book};
 ghost use Rattle.round.specs.Naming.{Listed, TakesItem, TakesMember};
 ghost use Rattle.round.specs.Uses.{RoundLaw};
@@ -13,7 +12,7 @@ use terms::name::spelling::is_among;
 // Puts a name at the end of a list of names, and answers its number.
 fn list<const N: usize>(names: &mut Table<Name, N>, s: &[u8]) -> Result<u32, Refusal>
     requires { N ≤ 32 }
-    ensures { Listed N (map letters names.old) (map letters names.new) s.now result }
+    ensures { Listed N names.old names.new s.now result }
 {
     let n = names.len();
     if n == N {

@@ -1,5 +1,4 @@
 ghost use Rattle.std.specs.Prelude.{◌≡◌, map, length};
-ghost use Rattle.terms.specs.Names.{letters};
 ghost use Rattle.round.specs.Rounds.{book};
 ghost use Rattle.round.specs.Views.{ShowsOffer};
 
@@ -11,14 +10,14 @@ use terms::name::Name;
 impl OpenRound {
     // The names of the items, of which the first is cash.
     pub fn item_names(&self) -> &[Name]
-        ensures { map letters result.now ≡ (book self.now).items }
+        ensures { result.now ≡ (book self.now).items }
     {
         self.items.as_slice()
     }
 
     // The names of the members.
     pub fn member_names(&self) -> &[Name]
-        ensures { map letters result.now ≡ (book self.now).members }
+        ensures { result.now ≡ (book self.now).members }
     {
         self.members.as_slice()
     }

@@ -13,20 +13,13 @@ fn is_holding(h: Holding, member: u32, item: u32) -> bool
 pub fn find_holding(holdings: &[Holding], member: u32, item: u32) -> Option<usize>
     ensures { result ≡ spot_of holdings.now member item }
 {
-    for (k, h) in holdings.iter().enumerate() {
-        if is_holding(*h, member, item) {
-            return Some(k);
-        }
-    }
-    None
+    holdings.iter().position(|h| is_holding(*h, member, item))
 }
 
 // The units of a member's holding of an item, or nothing where no entry exists.
 pub fn units_held(holdings: &[Holding], member: u32, item: u32) -> Option<u32>
     ensures { result ≡ held_by holdings.now member item }
 {
-    match find_holding(holdings, member, item) {
-        Some(k) => Some(holdings[k].units),
-        None => None,
-    }
+    let k = find_holding(holdings, member, item)?;
+    Some(holdings[k].units)
 }

@@ -1,27 +1,45 @@
-use Rattle.std.proofs.Common.{◌≡◌, ℕ, ◌<◌, false, List, map, length, get_or, take, sym, refl, ap, ◌∙◌, arith, below_more}
-use Rattle.std.proofs.lemmas.List.{get_or-map, get_or-take, length-map, length-take}
+use Rattle.std.proofs.Common.{◌≡◌, ℕ, ◌<◌, List, map, length, get_or, take, sym, refl, ap, ◌∙◌, subst₂, arith, below_more}
+use Rattle.std.specs.List.{ContainsAt as Has}
+use Rattle.std.proofs.lemmas.List.{get_or-map, get_or-take, get_or_default, length-map, length-take, take-map}
 use Rattle.std.proofs.lemmas.Bool.{both_ways}
-use Rattle.book.specs.Books.{Any, item_of}
+use Rattle.book.specs.Books.{item_of}
 use Rattle.book.specs.declared.line.Line.{Line}
 use Rattle.terms.proofs.lines.is_doubled.Goals as goal
 
-found : (ls : List Line) (j n : ℕ) (z : Line) → n ≡ j → j < length ls → Any (λ l. l.item ≡ (get_or ls j z).item) (take n ls) → (i : ℕ) × (i < j) × ((d : ℕ) → get_or (map item_of ls) i d ≡ get_or (map item_of ls) j d)
-found ls j n z e l h =
-    let lt : h.0 < n = omega (arith, h.1, length-take n ls) in
-    let li : h.0 < length ls = omega (arith, h.1, length-take n ls) in
-    (h.0, omega arith, λ d. get_or-map item_of ls h.0 z d li ∙ ap item_of (sym (get_or-take n ls h.0 z lt)) ∙ h.2 z ∙ sym (get_or-map item_of ls j z d l))
+-- an earlier entry with the same number
+abbrev Earlier : List ℕ → ℕ → Type 0
+Earlier js j = (i : ℕ) × (i < j) × ((d : ℕ) → get_or js i d ≡ get_or js j d)
 
-back : (ls : List Line) (j n : ℕ) (z : Line) → n ≡ j → j < length ls → (i : ℕ) → i < j → ((d : ℕ) → get_or (map item_of ls) i d ≡ get_or (map item_of ls) j d) → Any (λ l. l.item ≡ (get_or ls j z).item) (take n ls)
-back ls j n z e l i lt h =
-    let li : i < length ls = omega arith in
-    let ln : i < n = omega arith in
-    (i, omega (arith, length-take n ls), λ d. ap item_of (get_or-take n ls i d ln) ∙ sym (get_or-map item_of ls i d 0 li) ∙ h 0 ∙ get_or-map item_of ls j z 0 l)
+module _ (ls : List Line) (j n : ℕ) (z : Line) (e : n ≡ j) (l : j < length ls) where
+  abbrev js : List ℕ
+  js = map item_of ls
 
-pub returns-then-any : goal.returns-then-any
-returns-then-any c =
+  same : map item_of (take n ls) ≡ take j js
+  same = sym (take-map item_of n ls) ∙ ap (λ k. take k js) e
+
+  item : (get_or ls j z).item ≡ get_or js j 0
+  item = sym (get_or-map item_of ls j z 0 l)
+
+  long : j < length js
+  long = omega (arith, length-map ls item_of)
+
+  there : Has (take j js) (get_or js j 0) → Earlier js j
+  there h = let lt : h.0 < j = omega (arith, h.1, length-take j js) in (h.0, lt, λ d. sym (get_or-take j js h.0 d lt) ∙ h.2 d ∙ get_or_default js j 0 d long)
+
+  back : Earlier js j → Has (take j js) (get_or js j 0)
+  back h = (h.0, omega (arith, h.1, long, length-take j js), λ d. get_or-take j js h.0 d h.1 ∙ h.2 d ∙ get_or_default js j d 0 long)
+
+  found : Has (map item_of (take n ls)) (get_or ls j z).item → Earlier js j
+  found h = there (subst₂ Has same item h)
+
+  missed : Earlier js j → Has (map item_of (take n ls)) (get_or ls j z).item
+  missed h = subst₂ Has (sym same) (sym item) (back h)
+
+pub returns-then-has_item : goal.returns-then-has_item
+returns-then-has_item c =
     let ls = c.args.ls.now in
     let l : c.loop-j.j < length ls = omega arith in
-    let f = found ls c.loop-j.j _ _ (omega arith) l (c.any.ensures.0 c.if-any.true) in
+    let f = found ls c.loop-j.j _ _ (omega arith) l (c.has_item.ensures.0 c.if-has_item.true) in
     (λ _. (c.loop-j.j, omega (arith, length-map ls item_of), f.0, f.1, f.2), λ _. refl)
 
 pub loop-j-preserved : goal.loop-j-preserved
@@ -29,8 +47,4 @@ loop-j-preserved c =
     let ls = c.args.ls.now in
     let l : c.loop-j.j < length ls = omega arith in
     below_more _ _ c.loop-j.invariant
-    (λ i lt h. both_ways c.any.result c.if-any.false (c.any.ensures.1 (back ls c.loop-j.j _ _ (omega arith) l i lt h)))
-
-pub returns : goal.returns
-returns c =
-    (λ e. absurd (both_ways false refl e), λ h. absurd (c.loop-j.invariant h.0 (omega (arith, h.1, length-map c.args.ls.now item_of)) h.2 h.3 h.4))
+    (λ i lt h. both_ways c.has_item.result c.if-has_item.false (c.has_item.ensures.1 (missed ls c.loop-j.j _ _ (omega arith) l (i, lt, h))))

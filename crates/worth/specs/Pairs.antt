@@ -2,10 +2,15 @@
 use Rattle.std.specs.Prelude.{◌≡◌, ℕ, zero, suc, ◌+◌, ◌*◌, ◌≤◌, max, true, false, ◌⊎◌, List, [], ◌∷◌, length, refl}
 use Rattle.std.proofs.Common.{sym, ap, ap₂, ◌∙◌, inl, inr, arith, mul-suc, mul-le-mul_left, mul_comm}
 use Rattle.std.specs.List.{AllByRecursion}
-use Rattle.worth.specs.Kinds.{Ops, Laws, repeated, Rises, RisesFrom}
+use Rattle.std.specs.declared.cmp.Ordering.{Ordering}
+use Rattle.std.specs.Ordering.{ordering_then}
+use Rattle.worth.specs.Kinds.{Ops, Laws, repeated, Rises, RisesFrom, ordering}
 use Rattle.worth.specs.Lexicographic.{before, pair, pile}
 use Rattle.worth.specs.Orders.{Tri, below, same, above, tri}
 use Rattle.worth.specs.declared.lexicographic.Lexicographic.{Lexicographic}
+
+pub pile_ordered : {F S : Type 0} (a : Ops F) (b : Ops S) {f : F → F → Ordering} {g : S → S → Ordering} → ((x y : F) → f x y ≡ ordering a x y) → ((x y : S) → g x y ≡ ordering b x y) → (x y : Lexicographic F S) → ordering_then (f x.first y.first) (g x.second y.second) ≡ ordering (pile a b) x y
+pile_ordered a b p q x y = let e = p x.first y.first in let f = q x.second y.second in grind arith
 
 module _ {F S : Type 0} {a : Ops F} {b : Ops S} (la : Laws a) (lb : Laws b) where
   first_in : (x y : Lexicographic F S) → a.less x.first y.first ≡ true → before a b x y ≡ true

@@ -3,5 +3,4 @@ pub mod Money
 pub mod Weeks
 pub mod Lexicographic
 pub mod Pairs
-pub mod Orders
 pub mod Integers

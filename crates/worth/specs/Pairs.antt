@@ -1,54 +1,21 @@
 -- The laws of two kinds piled up.
-use Rattle.std.specs.Prelude.{◌≡◌, ℕ, zero, suc, ◌+◌, ◌*◌, ◌≤◌, max, true, false, ◌⊎◌, List, [], ◌∷◌, length, refl}
+use Rattle.std.specs.Prelude.{◌≡◌, ℕ, zero, suc, ◌+◌, ◌*◌, ◌≤◌, max, true, ◌⊎◌, List, [], ◌∷◌, length, refl}
 use Rattle.std.proofs.Common.{sym, ap, ap₂, ◌∙◌, inl, inr, arith, mul-suc, mul-le-mul_left, mul_comm}
 use Rattle.std.specs.List.{AllByRecursion}
-use Rattle.worth.specs.Kinds.{Ops, Laws, repeated, Rises, RisesFrom}
+use Rattle.std.specs.declared.cmp.Ordering.{Ordering}
+use Rattle.std.specs.Ordering.{ordering_then}
+use Rattle.worth.specs.Kinds.{Ops, Laws, repeated, Rises, RisesFrom, ordering}
 use Rattle.worth.specs.Lexicographic.{before, pair, pile}
-use Rattle.worth.specs.Orders.{Tri, below, same, above, tri}
 use Rattle.worth.specs.declared.lexicographic.Lexicographic.{Lexicographic}
 
+-- two orders, each as its kind's operations say, in turn
+pub pile_ordered : {F S : Type 0} (a : Ops F) (b : Ops S) {f : F → F → Ordering} {g : S → S → Ordering} → ((x y : F) → f x y ≡ ordering a x y) → ((x y : S) → g x y ≡ ordering b x y) → (x y : Lexicographic F S) → ordering_then (f x.first y.first) (g x.second y.second) ≡ ordering (pile a b) x y
+pile_ordered a b p q x y = grind (arith, p, q)
+
 module _ {F S : Type 0} {a : Ops F} {b : Ops S} (la : Laws a) (lb : Laws b) where
-  first_in : (x y : Lexicographic F S) → a.less x.first y.first ≡ true → before a b x y ≡ true
-  first_in x y h = rw h
-
-  second_in : (x y : Lexicographic F S) → x.first ≡ y.first → b.less x.second y.second ≡ true → before a b x y ≡ true
-  second_in x y e h =
-      let p : a.less x.first y.first ≡ false = rw e (la.irreflexive y.first) in
-      let q : a.less y.first x.first ≡ false = rw e (la.irreflexive y.first) in
-      rw (p, q, h)
-
+  -- the first is less, or equal and the second is less
   lex : (x y : Lexicographic F S) → before a b x y ≡ true → (a.less x.first y.first ≡ true) ⊎ ((x.first ≡ y.first) × (b.less x.second y.second ≡ true))
-  lex x y h = go (tri la x.first y.first)
-    where
-      go : Tri a x.first y.first → (a.less x.first y.first ≡ true) ⊎ ((x.first ≡ y.first) × (b.less x.second y.second ≡ true))
-      go (below p q) = inl p
-      go (same e p q) = inr (e, rw (p, q) at h)
-      go (above p q) = inl (let z : false ≡ true = rw (q, p) at h in cc)
-
-  transitive : (x y z : Lexicographic F S) → before a b x y ≡ true → before a b y z ≡ true → before a b x z ≡ true
-  transitive x y z h k = go (lex x y h) (lex y z k)
-    where
-      Out : Lexicographic F S → Lexicographic F S → Type 0
-      Out u v = (a.less u.first v.first ≡ true) ⊎ ((u.first ≡ v.first) × (b.less u.second v.second ≡ true))
-
-      go : (a.less x.first y.first ≡ true) ⊎ ((x.first ≡ y.first) × (b.less x.second y.second ≡ true)) → (a.less y.first z.first ≡ true) ⊎ ((y.first ≡ z.first) × (b.less y.second z.second ≡ true)) → before a b x z ≡ true
-      go (inl p) (inl q) = first_in x z (la.transitive _ _ _ p q)
-      go (inl p) (inr q) = first_in x z (rw q.0 at p)
-      go (inr p) (inl q) = first_in x z (rw p.0 q)
-      go (inr p) (inr q) = second_in x z (p.0 ∙ q.0) (lb.transitive _ _ _ p.1 q.1)
-
-  connected : (x y : Lexicographic F S) → before a b x y ≡ false → before a b y x ≡ false → x ≡ y
-  connected x y h k = go (tri la x.first y.first) (tri lb x.second y.second)
-    where
-      go : Tri a x.first y.first → Tri b x.second y.second → x ≡ y
-      go (below p q) t = let z = first_in x y p in cc
-      go (above p q) t = let z = first_in y x p in cc
-      go (same e p q) (below r s) = let z = second_in x y e r in cc
-      go (same e p q) (above r s) = let z = second_in y x (sym e) r in cc
-      go (same e p q) (same f r s) = ap₂ pair e f
-
-  shifted : (x y z : Lexicographic F S) → before a b ((pile a b).plus x z) ((pile a b).plus y z) ≡ before a b x y
-  shifted x y z = rw (la.shifted x.first y.first z.first, la.shifted y.first x.first z.first, lb.shifted x.second y.second z.second)
+  lex x y h = grind (arith, la.connected)
 
   repeats : (n : ℕ) (x : Lexicographic F S) → repeated (pile a b).none (pile a b).plus n x ≡ pair (repeated a.none a.plus n x.first) (repeated b.none b.plus n x.second)
   repeats zero x = refl
@@ -104,9 +71,9 @@ module _ {F S : Type 0} {a : Ops F} {b : Ops S} (la : Laws a) (lb : Laws b) wher
     neutral = λ x. ap₂ pair (la.neutral x.first) (lb.neutral x.second);
     inverse = λ x. ap₂ pair (la.inverse x.first) (lb.inverse x.second);
     irreflexive = λ x. rw (la.irreflexive x.first, lb.irreflexive x.second);
-    transitive = transitive;
-    connected = connected;
-    shifted = shifted;
+    transitive = λ x y z h k. grind (arith, la.transitive, la.irreflexive, la.connected, lb.transitive);
+    connected = λ x y h k. grind (arith, la.connected, lb.connected);
+    shifted = λ x y z. rw (la.shifted x.first y.first z.first, la.shifted y.first x.first z.first, lb.shifted x.second y.second z.second);
     times_is = λ n x. ap₂ pair (la.times_is n x.first) (lb.times_is n x.second) ∙ sym (repeats n x);
     size_none = omega (arith, la.size_none, lb.size_none);
     size_unit = λ p w h k l. omega (arith, la.size_unit p w h k l, lb.size_unit p w h k l);

@@ -5,7 +5,7 @@ use std::cmp::Ordering;
 
 // A kind of worth: an ordered abelian group whose elements have a size, and the worth of one traded unit.
 // The laws hold at any size. Computing is exact while the sizes involved add up to at most 4,194,304.
-pub trait Worth: Copy {
+pub trait Worth: Copy + Ord {
     ghost ops: { Ops Self };
 
     // The worth of one unit.
@@ -24,9 +24,6 @@ pub trait Worth: Copy {
         requires { ops.size self ≤ 4194304 }
         ensures { result ≡ ops.neg self };
 
-    fn compare(self, other: Self) -> Ordering
-        ensures { result ≡ ordering ops self other };
-
     fn times(self, n: u32) -> Self
         requires { n * ops.size self ≤ 4194304 }
         ensures { result ≡ ops.times n self };
@@ -42,15 +39,20 @@ pub trait Worth: Copy {
         self.plus(other.negated())
     }
 
+    fn compare(self, other: Self) -> Ordering
+        ensures { result ≡ ordering ops self other }
+    {
+        self.cmp(&other)
+    }
+
     fn is_less(self, other: Self) -> bool
         ensures { result ≡ ops.less self other }
     {
-        match self.compare(other) {
-            Ordering::Less => true,
-            Ordering::Equal => false,
-            Ordering::Greater => false,
-        }
+        self < other
     }
 
     ghost lawful: { Laws ops };
+
+    // `Ord` orders as the operations do.
+    ghost ordered: { (x y : Self) → Self.cmp x y ≡ ordering ops x y };
 }

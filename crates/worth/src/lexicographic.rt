@@ -1,11 +1,10 @@
 ghost use Rattle.worth.specs.Lexicographic.{pile};
-ghost use Rattle.worth.specs.Pairs.{pile_laws};
+ghost use Rattle.worth.specs.Pairs.{pile_laws, pile_ordered};
 
 use super::kind::Worth;
-use std::cmp::Ordering;
 
 // Two kinds piled up: the first decides, the second only where the first is equal.
-#[derive(Clone, Copy)]
+#[derive(Clone, Copy, Debug, PartialEq, Eq, PartialOrd, Ord)]
 pub struct Lexicographic<A, B> {
     pub first: A,
     pub second: B,
@@ -15,6 +14,8 @@ impl<F: Worth, S: Worth> Worth for Lexicographic<F, S> {
     ghost ops = { pile F.Worth.ops S.Worth.ops };
 
     ghost lawful = { pile_laws F.Worth.lawful S.Worth.lawful };
+
+    ghost ordered = { pile_ordered F.Worth.ops S.Worth.ops F.Worth.ordered S.Worth.ordered };
 
     fn unit(price: i64, weeks: u32) -> Lexicographic<F, S> {
         Lexicographic {
@@ -41,13 +42,6 @@ impl<F: Worth, S: Worth> Worth for Lexicographic<F, S> {
         Lexicographic {
             first: self.first.negated(),
             second: self.second.negated(),
-        }
-    }
-
-    fn compare(self, other: Lexicographic<F, S>) -> Ordering {
-        match self.first.compare(other.first) {
-            Ordering::Equal => self.second.compare(other.second),
-            decided => decided,
         }
     }
 

@@ -1,11 +1,11 @@
+ghost use Rattle.std.specs.Prelude.{refl};
 ghost use Rattle.worth.specs.Money.{money};
 ghost use Rattle.worth.specs.Integers.{money_laws};
 
 use super::kind::Worth;
-use std::cmp::Ordering;
 
 // Cents. A unit is worth its price.
-#[derive(Clone, Copy)]
+#[derive(Clone, Copy, Debug, PartialEq, Eq, PartialOrd, Ord)]
 pub struct Money {
     pub cents: i64,
 }
@@ -14,6 +14,8 @@ impl Worth for Money {
     ghost ops = { money };
 
     ghost lawful = { money_laws };
+
+    ghost ordered = { λ x y. refl };
 
     fn unit(price: i64, _weeks: u32) -> Money {
         Money { cents: price }
@@ -31,16 +33,6 @@ impl Worth for Money {
 
     fn negated(self) -> Money {
         Money { cents: -self.cents }
-    }
-
-    fn compare(self, other: Money) -> Ordering {
-        if self.cents < other.cents {
-            Ordering::Less
-        } else if other.cents < self.cents {
-            Ordering::Greater
-        } else {
-            Ordering::Equal
-        }
     }
 
     fn times(self, n: u32) -> Money {

@@ -1,11 +1,11 @@
+ghost use Rattle.std.specs.Prelude.{refl};
 ghost use Rattle.worth.specs.Weeks.{weeks as counted};
 ghost use Rattle.worth.specs.Integers.{weeks_laws};
 
 use super::kind::Worth;
-use std::cmp::Ordering;
 
 // A count of weeks. A unit is worth its weeks.
-#[derive(Clone, Copy)]
+#[derive(Clone, Copy, Debug, PartialEq, Eq, PartialOrd, Ord)]
 pub struct Weeks {
     pub count: i64,
 }
@@ -14,6 +14,8 @@ impl Worth for Weeks {
     ghost ops = { counted };
 
     ghost lawful = { weeks_laws };
+
+    ghost ordered = { λ x y. refl };
 
     fn unit(_price: i64, weeks: u32) -> Weeks {
         Weeks {
@@ -33,10 +35,6 @@ impl Worth for Weeks {
 
     fn negated(self) -> Weeks {
         Weeks { count: -self.count }
-    }
-
-    fn compare(self, other: Weeks) -> Ordering {
-        self.count.cmp(&other.count)
     }
 
     fn times(self, n: u32) -> Weeks {

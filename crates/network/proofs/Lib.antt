@@ -1,4 +1,4 @@
 pub mod Reading
-pub mod Worths
 pub mod Circulations
+pub mod Worths
 pub mod Fitting

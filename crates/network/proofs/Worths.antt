@@ -1,11 +1,12 @@
 -- The worth of the first arcs of a network, and how large it can be.
-use Rattle.std.proofs.Common.{◌≡◌, ℕ, zero, suc, ◌+◌, ◌*◌, ◌≤◌, length, sym, ap, ◌∙◌, ap₂, subst₂, mul-le-mul, add-one, arith}
+use Rattle.std.proofs.Common.{◌≡◌, ℕ, zero, suc, ◌+◌, ◌*◌, ◌≤◌, List, [], ◌∷◌, ◌++◌, length, sym, ap, ◌∙◌, ap₂, subst₂, mul-le-mul, add-one, arith}
+use Rattle.std.proofs.lemmas.List.{length_push}
 use Rattle.worth.specs.Kinds.{Ops, Laws}
 use Rattle.flow.specs.Groups.{times, total}
 use Rattle.flow.specs.declared.arc.Arc.{Arc}
 use Rattle.flow.specs.Arcs.{arc_at}
 use Rattle.network.specs.Networks.{Net, Sound, SoundArc}
-use Rattle.network.proofs.Reading.{Read, sound_arc}
+use Rattle.network.proofs.Reading.{Next, sound_arc}
 
 -- a small product
 pub product_small : (k x : ℕ) → k ≤ 1000 → x ≤ 1 → k * x ≤ 4194304
@@ -35,13 +36,14 @@ module _ {W : Type 0} {o : Ops W} (laws : Laws o) where
       let a = arc_at n.arcs i in
       omega (arith, laws.size_plus (value_below o n i) (arc_worth o a), below_small n s i (omega arith), arc_small a (s.each i (omega arith)))
 
-  module _ (n : Net) (sound : Sound n) (i : ℕ) (a : Arc) (read : Read n i a) (sum x : W) (so_far : sum ≡ value_below o n i) (is : x ≡ o.times a.flow (o.unit a.price a.weeks)) where
+  -- the next arc, after those seen and their worth
+  module _ {n : Net} {seen : List Arc} {a : Arc} (sound : Sound n) (next : Next n seen a) {sum x : W} (so_far : sum ≡ value_below o n (length seen)) (is : x ≡ o.times a.flow (o.unit a.price a.weeks)) where
     one : x ≡ arc_worth o a
     one = is ∙ laws.times_is a.flow (o.unit a.price a.weeks)
 
-    -- the worth of an arc can be added to that of the arcs before it
+    -- its worth can be added
     pub can_add : o.size sum + o.size x ≤ 4194304
-    can_add = subst₂ (λ y z. o.size y + o.size z ≤ 4194304) (sym so_far) (sym one) (omega (arith, below_small n sound i (omega (arith, read.0)), arc_small a (sound_arc n sound i a read), sound.few_arcs, read.0))
+    can_add = subst₂ (λ y z. o.size y + o.size z ≤ 4194304) (sym so_far) (sym one) (omega (arith, below_small n sound (length seen) (omega (arith, next.here)), arc_small a (sound_arc sound next), sound.few_arcs, next.here))
 
-    pub added : o.plus sum x ≡ value_below o n (i + 1)
-    added = ap₂ o.plus so_far (one ∙ ap (arc_worth o) read.1) ∙ ap (value_below o n) (sym (add-one i))
+    pub added : o.plus sum x ≡ value_below o n (length (seen ++ a ∷ []))
+    added = ap₂ o.plus so_far (one ∙ ap (arc_worth o) next.is) ∙ ap (value_below o n) (sym (length_push seen a ∙ add-one (length seen)))

@@ -18,6 +18,10 @@ module _ {W : Type 0} (o : Ops W) where
       let up : W = o.plus x (o.unit a.price a.weeks) in
       (a.flow < a.capacity → Le o up y) × (0 < a.flow → Le o y up)
 
+  -- the potentials of a row at the ends of an arc fit
+  abbrev pub FitsOn : List W → Arc → Type 0
+  FitsOn row a = FitsArc a (potential row a.from) (potential row a.to)
+
   -- a row of potentials that fit: one for each node, each of size at most 1,000,000
   pub record Fitted (n : Net) (row : List W) : Type 0 where
     pub enough : n.nodes ≤ length row

@@ -7,3 +7,4 @@ pub mod improvable;
 pub mod potentials;
 pub mod readable;
 pub mod valuation;
+pub mod walk;

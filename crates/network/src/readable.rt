@@ -3,6 +3,7 @@ ghost use Rattle.flow.specs.Arcs.{arc_at};
 ghost use Rattle.tables.specs.Refusals.{number};
 ghost use Rattle.network.specs.Networks.{Net, Sound};
 
+use super::walk::Arcs;
 use flow::arc::Arc;
 use tables::refusal::Refusal;
 
@@ -20,6 +21,15 @@ pub trait Network {
         ensures { MatchResult result
             (λ x. (i < length (net self.now).arcs) × (x ≡ arc_at (net self.now).arcs i))
             (λ e. (length (net self.now).arcs ≤ i) × (number e ≡ 1)) };
+
+    // The arcs one by one, all of them still to come.
+    final fn arcs(&self) -> Arcs<'_, Self>
+    where
+        Self: Sized,
+        ensures { result ≡ (net self.now).arcs }
+    {
+        Arcs { net: self, next: 0 }
+    }
 
     // Every value keeps the bounds, so that no reader has to test them.
     ghost sound: { (x : Self) → Sound (net x) };

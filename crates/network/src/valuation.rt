@@ -17,12 +17,9 @@ fn arc_worth<W: Worth>(arc: Arc) -> W
 pub fn worth<N: Network, W: Worth>(net: &N) -> W
     ensures { result ≡ value W.Worth.ops (N.Network.net net.now) }
 {
-    let (_, arcs) = net.counts();
     let mut sum = W::none();
-    for i in 0..arcs {
-        if let Ok(arc) = net.arc(i) {
-            sum = sum.plus(arc_worth(arc));
-        }
+    for arc in net.arcs() {
+        sum = sum.plus(arc_worth(arc));
     }
     sum
 }

@@ -1,37 +1,29 @@
-use Rattle.std.proofs.Common.{arith, below_more}
-use Rattle.std.proofs.lemmas.Bool.{false≢true}
-use Rattle.std.proofs.lemmas.Bool.Decides.{not_from_Decides}
-use Rattle.network.proofs.Reading.{sound_arc}
-use Rattle.network.proofs.Fitting.{FitsAt, from_in, to_in, from_small, tested}
+use Rattle.std.proofs.Common.{rules, tests, ◌≤◌, length, arith}
+use Rattle.std.proofs.lemmas.Iterator.{cases_from_all}
+use Rattle.std.proofs.lemmas.Iterator.Consumers.{YieldsList-from_first}
+use Rattle.std.proofs.lemmas.Iterator.Adapters.{serves_from_places}
+use Rattle.std.proofs.lemmas.Grind.{common_steps}
+use Rattle.flow.specs.Arcs.{blank}
+use Rattle.network.specs.Networks.{SoundArc}
+use Rattle.network.specs.Potentials.{potential, FitsOn}
+use Rattle.network.proofs.Reading.{among_more, sound_at}
+use Rattle.network.proofs.Fitting.{decides_each}
 use Rattle.network.proofs.potentials.fits.Goals as goal
-use Rattle.network.proofs.potentials.fits.Goals.{in-Ok+else-not-fit_arc, in_default}
 
-pub offset_bounds-potentials-arc : goal.offset_bounds-potentials-arc
-offset_bounds-potentials-arc g c = omega (arith, from_in g.W.Worth.ops (g.N.Network.net c.args.net.now) (g.met.N.Network.sound c.args.net.now) c.loop-i.i c.in-Ok.arc c.in-Ok.ensures c.args.potentials.now (omega (arith, c.if-potentials-nodes.false, c.counts-nodes.ensures.0)))
+pub all-requires-clause-callable : goal.all-requires-clause-callable
+all-requires-clause-callable g c =
+    let o = g.W.Worth.ops in
+    let n = g.N.Network.net c.args.net.now in
+    let row = c.args.potentials.now in
+    serves_from_places (YieldsList-from_first (λ x. x) (λ rest. rest) n.arcs c.arcs.ensures) (λ a q r. search rules) (λ a k h e.
+    let s : SoundArc n.nodes a = sound_at (g.met.N.Network.sound c.args.net.now) k h e in
+    let s' : SoundArc (length row) a = among_more n.nodes (length row) a (omega (arith, c.counts-nodes.ensures.0)) s in
+    let small : o.size (potential o row a.from) ≤ 1000000 = grind (arith, common_steps, c.are_small.ensures.0 c.if-are_small.true a.from, s.from_in) in
+    search rules)
 
-pub bounds-potentials-arc : goal.bounds-potentials-arc
-bounds-potentials-arc g c = from_in g.W.Worth.ops (g.N.Network.net c.args.net.now) (g.met.N.Network.sound c.args.net.now) c.loop-i.i c.in-Ok.arc c.in-Ok.ensures c.args.potentials.now (omega (arith, c.if-potentials-nodes.false, c.counts-nodes.ensures.0))
-
-pub offset_bounds-potentials-arc-in-Ok : goal.offset_bounds-potentials-arc-in-Ok
-offset_bounds-potentials-arc-in-Ok g c = omega (arith, to_in g.W.Worth.ops (g.N.Network.net c.args.net.now) (g.met.N.Network.sound c.args.net.now) c.loop-i.i c.in-Ok.arc c.in-Ok.ensures c.args.potentials.now (omega (arith, c.if-potentials-nodes.false, c.counts-nodes.ensures.0)))
-
-pub bounds-potentials-arc-in-Ok : goal.bounds-potentials-arc-in-Ok
-bounds-potentials-arc-in-Ok g c = to_in g.W.Worth.ops (g.N.Network.net c.args.net.now) (g.met.N.Network.sound c.args.net.now) c.loop-i.i c.in-Ok.arc c.in-Ok.ensures c.args.potentials.now (omega (arith, c.if-potentials-nodes.false, c.counts-nodes.ensures.0))
-
-pub fit_arc-requires : goal.fit_arc-requires
-fit_arc-requires g c = record {
-  sound = ((g.N.Network.net c.args.net.now).nodes, sound_arc (g.N.Network.net c.args.net.now) (g.met.N.Network.sound c.args.net.now) c.loop-i.i c.in-Ok.arc c.in-Ok.ensures);
-  small = from_small g.W.Worth.ops (g.N.Network.net c.args.net.now) (g.met.N.Network.sound c.args.net.now) c.loop-i.i c.in-Ok.arc c.in-Ok.ensures c.args.potentials.now (omega (arith, c.if-potentials-nodes.false, c.counts-nodes.ensures.0)) (λ v h. c.are_small.ensures.0 c.if-not-are_small.false v (omega (arith, c.counts-nodes.ensures.0))) c.index-potentials-arc.result c.index-potentials-arc.is;
-}
-
-pub returns-then-not-fit_arc : goal.returns-then-not-fit_arc
-returns-then-not-fit_arc g c = (
-  λ e. absurd (false≢true e),
-  λ f. absurd (not_from_Decides c.fit_arc.result (tested g.W.Worth.ops (g.N.Network.net c.args.net.now) (g.met.N.Network.sound c.args.net.now) c.loop-i.i c.in-Ok.arc c.in-Ok.ensures c.args.potentials.now (omega (arith, c.if-potentials-nodes.false, c.counts-nodes.ensures.0)) c.index-potentials-arc.result c.index-potentials-arc-in-Ok.result c.fit_arc.result c.index-potentials-arc.is c.index-potentials-arc-in-Ok.is c.fit_arc.ensures) c.if-not-fit_arc.true (f.fits c.loop-i.i c.in-Ok.ensures.0)),
-)
-
-pub loop-i-preserved : goal.loop-i-preserved
-loop-i-preserved g c = elim c.match-arc.branch [
-  | in-Ok+else-not-fit_arc w ↦ below_more (FitsAt g.W.Worth.ops (g.N.Network.net c.args.net.now) c.args.potentials.now) c.loop-i.i c.loop-i.invariant ((tested g.W.Worth.ops (g.N.Network.net c.args.net.now) (g.met.N.Network.sound c.args.net.now) c.loop-i.i w.in-Ok.arc w.in-Ok.ensures c.args.potentials.now (omega (arith, c.if-potentials-nodes.false, c.counts-nodes.ensures.0)) w.index-potentials-arc.result w.index-potentials-arc-in-Ok.result w.fit_arc.result w.index-potentials-arc.is w.index-potentials-arc-in-Ok.is w.fit_arc.ensures).0 w.if-not-fit_arc.false)
-  | in_default w ↦ absurd (omega (arith, w.in_default.ensures.0, c.loop-i-test.true, c.counts-nodes.ensures.1))
-]
+pub returns-then-are_small : goal.returns-then-are_small
+returns-then-are_small g c =
+    let P = FitsOn g.W.Worth.ops c.args.potentials.now in
+    let arcs = (g.N.Network.net c.args.net.now).arcs in
+    let each = decides_each P c.all.result arcs (cases_from_all _ _ _ P (λ a. P a → ⊥) c.all.ensures.ran (YieldsList-from_first (λ x. x) (λ rest. rest) arcs c.arcs.ensures) (λ a q k. search (rules, tests)) (λ a q k. search (rules, tests))) blank in
+    (λ e. record { enough = omega (arith, c.counts-nodes.ensures.0); fits = each.0 e; small = λ v h. grind (arith, common_steps, c.are_small.ensures.0 c.if-are_small.true v, h) }, λ f. each.1 f.fits)

@@ -1,11 +1,9 @@
 -- Putting bytes into a buffer piece by piece.
-use Rattle.std.proofs.Common.{◌≡◌, ℕ, ◌+◌, ◌<◌, ◌≤◌, List, [], ◌∷◌, ◌++◌, length, get_or, take, drop, Some, None, Ok, Err, Option, Result, sym, refl, ap, ◌∙◌, subst, ⊎_elim, append_assoc, append-nil, arith, take-append-drop}
+use Rattle.std.proofs.Common.{◌≡◌, ℕ, ◌+◌, ◌<◌, ◌≤◌, List, [], ◌∷◌, ◌++◌, length, get_or, take, drop, Ok, Err, Result, sym, refl, ap, ◌∙◌, subst, append_assoc, append-nil, arith, take-append-drop}
 use Rattle.std.proofs.lemmas.List.{length-append, length_push, length-take, take_all, take-append-le, take_at, take_more}
-use Rattle.std.proofs.lemmas.Bool.{cases_lt}
-use Rattle.tables.specs.Refusals.{when, First, number, refusal}
+use Rattle.tables.specs.Refusals.{when, First, refusal}
 use Rattle.tables.specs.Tables.{Added}
 use Rattle.tables.specs.declared.refusal.Refusal.{Refusal}
-use Rattle.tables.proofs.Firsts.{next, not_first}
 use Rattle.text.specs.Buffers.{Put}
 use Rattle.text.specs.Numbers.{Notation}
 use Rattle.text.specs.Rows.{spaced, row_spelt}
@@ -17,17 +15,11 @@ put_few {a} {b} {xs} p = omega (arith, ap length p.outcome, length-take 32768 (a
 -- what fits is put after what was there
 pub fits : {a b xs : List ℕ} → Put a b xs (Ok tt) → (length a + length xs ≤ 32768) × (b ≡ a ++ xs)
 fits {a} {b} {xs} p =
-    let few : length a + length xs ≤ 32768 = ⊎_elim (λ lt. absurd (not_first p.refused lt)) (λ le. le) (cases_lt 32768 (length a + length xs)) in
+    let few : length a + length xs ≤ 32768 = grind arith in
     (few, p.outcome ∙ take_all 32768 (a ++ xs) (omega (arith, length-append a xs)))
 
--- what is refused does not fit
-pub over : {a b xs : List ℕ} {e : Refusal} → Put a b xs (Err e) → 32768 < length a + length xs
-over {a} {b} {xs} {e} p =
-    ⊎_elim (λ lt. lt) (λ le. let n : ◌≡◌ {A = Option ℕ} (Some (number e)) None = p.refused.1 (λ lt. omega arith) in let z : ◌≡◌ {A = ℕ} 0 1 = cc in absurd (omega arith))
-    (cases_lt 32768 (length a + length xs))
-
 pub put_none : (a : List ℕ) → length a ≤ 32768 → Put a a [] (Ok tt)
-put_none a few = record { refused = next (λ lt. omega arith) refl; outcome = sym (take_all 32768 (a ++ []) (omega (arith, length-append {A = ℕ} a [])) ∙ append-nil a) }
+put_none a few = record { refused = grind arith; outcome = sym (take_all 32768 (a ++ []) (omega (arith, length-append {A = ℕ} a [])) ∙ append-nil a) }
 
 -- one piece after another
 pub put_then : {a b c xs ys : List ℕ} {r : Result (Unit {0}) Refusal} → Put a b xs (Ok tt) → Put b c ys r → Put a c (xs ++ ys) r
@@ -42,9 +34,9 @@ put_then {a} {b} {c} {xs} {ys} {r} p q =
 -- after a piece that does not fit, nothing more does
 pub put_stop : {a b xs : List ℕ} {e : Refusal} (ys : List ℕ) → Put a b xs (Err e) → Put a b (xs ++ ys) (Err e)
 put_stop {a} {b} {xs} {e} ys p =
-    let lt = over p in
+    let over : 32768 < length a + length xs = grind arith in
     record {
-      refused = (λ _. p.refused.0 lt, λ f. absurd (f (omega (arith, length-append xs ys))));
+      refused = grind (arith, length-append);
       outcome = p.outcome ∙ sym (take-append-le 32768 (a ++ xs) ys (omega (arith, length-append a xs))) ∙ ap (take 32768) (append_assoc a xs ys);
     }
 
@@ -57,13 +49,10 @@ put_from {a} {b} {c} {xs} {r} e p = subst (λ l. Put l c xs r) e p
 -- one byte more in a table
 pub put_one : {a b : List ℕ} {x : ℕ} (r : Result (Unit {0}) Refusal) → length a ≤ 32768 → Added 32768 a b (x ∷ []) r → Put a b (x ∷ []) r
 put_one {a} {b} {x} (Ok u) few p =
-    let le : length a + 1 ≤ 32768 = ⊎_elim (λ lt. absurd (not_first p.refused lt)) (λ le. le) (cases_lt 32768 (length a + 1)) in
+    let room : length a + 1 ≤ 32768 = grind arith in
     record { refused = p.refused; outcome = p.outcome ∙ sym (take_all 32768 (a ++ x ∷ []) (omega (arith, length_push a x))) }
 put_one {a} {b} {x} (Err e) few p =
-    let full : length a ≡ 32768 = ⊎_elim
-    (λ lt. omega arith)
-    (λ le. let n : ◌≡◌ {A = Option ℕ} (Some (number e)) None = p.refused.1 (λ lt. omega arith) in let z : ◌≡◌ {A = ℕ} 0 1 = cc in absurd (omega arith))
-    (cases_lt 32768 (length a + 1)) in
+    let full : length a ≡ 32768 = grind arith in
     record { refused = p.refused; outcome = p.outcome ∙ sym (take_at a (x ∷ []) 32768 full) }
 
 -- the next byte of those that are put in

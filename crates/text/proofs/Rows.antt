@@ -1,5 +1,5 @@
 -- Reading a row number by number.
-use Rattle.std.proofs.Common.{◌≡◌, ℕ, ◌+◌, ◌<◌, ◌≤◌, Bool, true, false, List, [], ◌∷◌, ◌++◌, Some, None, Option, length, get_or, take, drop, set, eqb, sym, refl, ap, ◌∙◌, subst, append_assoc, append-nil, add-zero, arith, length-set}
+use Rattle.std.proofs.Common.{◌≡◌, ℕ, ◌+◌, ◌<◌, ◌≤◌, Bool, true, false, List, [], ◌∷◌, ◌++◌, Some, None, Option, length, get_or, take, drop, set, eqb, sym, refl, ap, ◌∙◌, subst, append_assoc, append-nil, arith, length-set}
 use Rattle.std.specs.Bool.{MatchBool}
 use Rattle.std.specs.Borrow.{Bor}
 use Rattle.std.specs.Fn.{Mut, ComputesKey}
@@ -7,7 +7,7 @@ use Rattle.std.specs.List.{AllByRecursion, IsFirstMatchOrLen}
 use Rattle.std.specs.Slice.Iter.{split_rest, split_done, split_callee, split_steps}
 use Rattle.std.specs.declared.slice.Split.{Split}
 use Rattle.std.proofs.lemmas.Bool.{eqb-true, eqb-false}
-use Rattle.std.proofs.lemmas.List.{drop-drop, get_or-drop, get_or_append_left, get_or_at, length-append, length-drop, take_all, take_more, take_more_set}
+use Rattle.std.proofs.lemmas.List.{drop_more, get_or_append_left, get_or_at, length-append, length-drop, take_all, take_more, take_more_set}
 use Rattle.text.specs.Numbers.{Notation, Legible, Spells}
 use Rattle.text.specs.Parts.{Free, FirstAt}
 use Rattle.text.specs.Rows.{row_spelt, SpellsRow}
@@ -41,7 +41,7 @@ part_from false rest part after (y, e) f =
 
 -- a part that the library's `split` at spaces gives: the row had not ended
 pub next_part : {F : Type 0} (g : Mut F (Bor ℕ × Unit {0}) Bool) (s t : Split ℕ F) (r : Option (Bor (List ℕ))) (part : Bor (List ℕ)) → split_steps g s r t → r ≡ Some part → ComputesKey g (λ b. eqb b 32) (split_callee s) → (split_done s ≡ false) × Part (split_done t) (split_rest s) part.now (split_rest t)
-next_part g s t None part h e key = let z : ◌≡◌ {A = ℕ} 0 1 = cc e in absurd (omega arith)
+next_part g s t None part h e key = absurd (cc e)
 next_part g s t (Some p) part h e key =
     let same : p ≡ part = cc e in
     subst (λ q. (split_done s ≡ false) × Part (split_done t) (split_rest s) q.now (split_rest t)) same (h.0, part_from (split_done t) _ _ _ h.1 (h.2 (λ b. eqb b 32) key).1)
@@ -49,7 +49,7 @@ next_part g s t (Some p) part h e key =
 -- where it gives none, it has
 pub no_part : {F : Type 0} (g : Mut F (Bor ℕ × Unit {0}) Bool) (s t : Split ℕ F) (r : Option (Bor (List ℕ))) → split_steps g s r t → r ≡ None → split_done s ≡ true
 no_part g s t None h e = h.0
-no_part g s t (Some p) h e = let z : ◌≡◌ {A = ℕ} 0 1 = cc e in absurd (omega arith)
+no_part g s t (Some p) h e = absurd (cc e)
 
 -- the first i numbers are read, and the row's bytes are a row just as the rest of them is
 pub record Reading {X : Type 0} (notation : Notation X) (n : ℕ) (bytes : List ℕ) (i : ℕ) (numbers : List X) (ended : Bool) (rest : List ℕ) : Type 0 where
@@ -91,13 +91,8 @@ module _ {X : Type 0} {notation : Notation X} (legible : Legible notation) where
   same : {part : List ℕ} (x y : X) → Spells notation part x → Spells notation part y → x ≡ y
   same x y s t = legible.once x y (sym s.0 ∙ t.0)
 
-  next_drop : (i : ℕ) (xs : List X) (y : X) (ys : List X) → drop i xs ≡ y ∷ ys → drop (i + 1) xs ≡ ys
-  next_drop i xs y ys e = sym (drop-drop 1 i xs) ∙ ap (drop 1) e
-
-  next_take : (i : ℕ) (xs : List X) (y : X) (ys : List X) → i < length xs → drop i xs ≡ y ∷ ys → take (i + 1) xs ≡ take i xs ++ y ∷ []
-  next_take i xs y ys lt e =
-      let g : get_or xs i y ≡ y = ap (λ k. get_or xs k y) (sym (add-zero i)) ∙ sym (get_or-drop i xs 0 y) ∙ ap (λ l. get_or l 0 y) e in
-      take_more xs i y lt ∙ ap (λ z. take i xs ++ z ∷ []) g
+  next_of : (i : ℕ) (xs : List X) (y : X) (ys : List X) → i < length xs → drop i xs ≡ y ∷ ys → (take (i + 1) xs ≡ take i xs ++ y ∷ []) × (drop (i + 1) xs ≡ ys)
+  next_of i xs y ys lt e = let d = drop_more xs i y lt in let t = take_more xs i y lt in (cc, cc)
 
   module _ {n : ℕ} {bytes : List ℕ} {i : ℕ} {numbers : List X} {rest : List ℕ} (before : Reading notation n bytes i numbers false rest) (below : i < n) (done : Bool) (part after : List ℕ) (f : Part done rest part after) where
     -- the next number
@@ -109,8 +104,8 @@ module _ {X : Type 0} {notation : Notation X} (legible : Legible notation) where
           to = λ xs sp.
               let b = before.to xs sp in
               let z = first_part done rest part after (drop i xs) b.1 f in
-              let d : drop i xs ≡ x ∷ z.1 = z.2 ∙ ap (λ y. y ∷ z.1) (same z.0 x z.3 s) in
-              (next_take i xs x z.1 (omega (arith, sp.count)) d ∙ ap (λ l. l ++ x ∷ []) b.0 ∙ sym more, subst (Left notation done after) (sym (next_drop i xs x z.1 d)) z.4);
+              let d = next_of i xs x z.1 (omega (arith, sp.count)) (z.2 ∙ ap (λ y. y ∷ z.1) (same z.0 x z.3 s)) in
+              (d.0 ∙ ap (λ l. l ++ x ∷ []) b.0 ∙ sym more, subst (Left notation done after) (sym d.1) z.4);
           from = λ xs w. subst (Whole notation bytes) (sym (ap (λ l. l ++ xs) more ∙ append_assoc (take i numbers) (x ∷ []) xs)) (before.from (x ∷ xs) (onto done rest part after x xs f s w));
         }
 

@@ -52,7 +52,8 @@ decimal_spelt = by_digits (λ n ds. n < 2 ^ 64 → decimal n ≡ ds)
 pub same_from_spelt : (m n : ℕ) → spelt m ≡ spelt n → m ≡ n
 same_from_spelt m n e = sym (value_spelt m) ∙ ap (digits_value 10) e ∙ value_spelt n
 
-own : IsNumeralModel (AllDigits 10) (digits_value 10)
+-- the library's words for digits and their value are a model of numerals
+pub own : IsNumeralModel (AllDigits 10) (digits_value 10)
 own = numerals_by_value (AllDigits 10) tells_digits
 
 -- how large a number of so many digits is

@@ -1,24 +1,7 @@
 -- Bytes that a separator cuts in two: the cut is unique.
-use Rattle.std.proofs.Common.{◌≡◌, ℕ, zero, suc, ◌+◌, ◌-◌, ◌<◌, List, [], ◌∷◌, ◌++◌, length, get_or, take, drop, sym, refl, ap, ◌∙◌, subst, arith, take-append-drop}
-use Rattle.std.proofs.lemmas.List.{drop_more, take_rest, length-take-le, get_or-take, get_or_at, length-append}
+use Rattle.std.proofs.Common.{◌≡◌, ℕ, zero, suc, ◌<◌, List, [], ◌∷◌, ◌++◌, length, get_or, sym, refl, ap, ◌∙◌, arith}
+use Rattle.std.proofs.lemmas.List.{get_or_at, length-append}
 use Rattle.text.specs.Parts.{Free, FirstAt}
-
-cut_at : (b : ℕ) (xs : List ℕ) (i : ℕ) → i < length xs → get_or xs i 0 ≡ b → xs ≡ take i xs ++ b ∷ drop (i + 1) xs
-cut_at b xs i lt e = sym (take-append-drop i xs) ∙ ap (λ l. take i xs ++ l) (drop_more xs i 0 lt ∙ ap (λ x. x ∷ drop (i + 1) xs) e)
-
-free_take : (b : ℕ) (xs : List ℕ) (i : ℕ) → i < length xs → ((k : ℕ) → k < i → get_or xs k 0 ≡ b → ⊥) → Free b (take i xs)
-free_take b xs i lt h k kl e =
-    let n = length-take-le i xs (omega arith) in
-    let below : k < i = omega arith in
-    h k below (sym (get_or-take i xs k 0 below) ∙ e)
-
--- as `&xs[0..i]` and `&xs[i + 1..]` have it
-pub first_at : (b : ℕ) (xs : List ℕ) (i : ℕ) → i < length xs → get_or xs i 0 ≡ b → ((k : ℕ) → k < i → get_or xs k 0 ≡ b → ⊥) → FirstAt b xs (take (i - 0) xs) (take (length xs - (i + 1)) (drop (i + 1) xs))
-first_at b xs i lt e h =
-    let start : i ≡ i - 0 = omega arith in
-    let rest = sym (take_rest xs (i + 1)) in
-    let here : FirstAt b xs (take i xs) (drop (i + 1) xs) = record { is = cut_at b xs i lt e; free = free_take b xs i lt h } in
-    subst (λ l. FirstAt b xs (take (i - 0) xs) l) rest (subst (λ k. FirstAt b xs (take k xs) (drop (i + 1) xs)) start here)
 
 free_rest : (b x : ℕ) (xs : List ℕ) → Free b (x ∷ xs) → Free b xs
 free_rest b x xs f k lt = f (suc k) (omega arith)

@@ -1,5 +1,5 @@
 pub mod Cuts
 pub mod Faults
-pub mod Lines
+pub mod Parsing
 pub mod Puts
 pub mod Rows

@@ -2,11 +2,6 @@
 use Rattle.std.specs.Prelude.{◌≡◌, ℕ, ◌+◌, ◌<◌, List, [], ◌∷◌, ◌++◌, length, take, drop, Result, MatchResult}
 use Rattle.tables.specs.Refusals.{when, First, refusal}
 use Rattle.tables.specs.declared.refusal.Refusal.{Refusal}
-use Rattle.text.specs.declared.buffer.Buffer.{Buffer}
-
--- the bytes of a buffer
-abbrev pub written : Buffer → List ℕ
-written buffer = buffer.bytes
 
 -- more bytes after those before, as far as they fit into 32,768; refused where they do not fit
 pub record Put (before after more : List ℕ) (r : Result (Unit {0}) Refusal) : Type 0 where

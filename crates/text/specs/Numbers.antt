@@ -35,9 +35,13 @@ pub record Legible {X : Type 0} (notation : Notation X) : Type 0 where
   pub once : (x y : X) → notation.spelling x ≡ notation.spelling y → x ≡ y
   pub high : (x : X) (b : ℕ) → b < 45 → Free b (notation.spelling x)
 
+-- the bytes are the spelling of x, which has at most so many digits
+abbrev pub SpellsWithin : {X : Type 0} → ℕ → Notation X → List ℕ → X → Type 0
+SpellsWithin most notation bytes x = (bytes ≡ notation.spelling x) × (notation.digit_count x ≤ most)
+
 -- the bytes are the spelling of x, which has at most 13 digits
 abbrev pub Spells : {X : Type 0} → Notation X → List ℕ → X → Type 0
-Spells notation bytes x = (bytes ≡ notation.spelling x) × (notation.digit_count x ≤ 13)
+Spells notation bytes x = SpellsWithin 13 notation bytes x
 
 -- what was read fits, or nothing does and the text departs from the layout
 abbrev pub Reads : {X : Type 0} → (X → Type 0) → Result X Refusal → Type 0

@@ -10,7 +10,7 @@ use Rattle.std.proofs.lemmas.List.{get_or_append_left, length_push}
 use Rattle.std.proofs.lemmas.Str.Parse.{IsNumeralModel, numerals_by_value, tells_digits, digit_at, digits_value_short, not_in_digits}
 use Rattle.std.proofs.lemmas.Int.{ints}
 use Rattle.std.proofs.lemmas.Str.{digit_value_digit}
-use Rattle.text.specs.Numbers.{digits, spelt, level_spelt, unsigned, signed, Legible, Spells}
+use Rattle.text.specs.Numbers.{digits, spelt, level_spelt, unsigned, signed, Legible, Spells, SpellsWithin}
 
 -- what holds of the one_digit numbers, and goes over from all digits but the last to all of them
 pub by_digits : (P : ℕ → List ℕ → Type 0) → ((n : ℕ) → n < 10 → P n ((48 + n) ∷ [])) → ((n : ℕ) (ds : List ℕ) → 10 ≤ n → P (n / 10) ds → P n (ds ++ (48 + n % 10) ∷ [])) → (n : ℕ) → P n (spelt n)
@@ -52,11 +52,9 @@ decimal_spelt = by_digits (λ n ds. n < 2 ^ 64 → decimal n ≡ ds)
 pub same_from_spelt : (m n : ℕ) → spelt m ≡ spelt n → m ≡ n
 same_from_spelt m n e = sym (value_spelt m) ∙ ap (digits_value 10) e ∙ value_spelt n
 
-own : IsNumeralModel (AllDigits 10) (digits_value 10)
+-- the library's words for digits and their value are a model of numerals
+pub own : IsNumeralModel (AllDigits 10) (digits_value 10)
 own = numerals_by_value (AllDigits 10) tells_digits
-
-pub value_below : (bytes : List ℕ) (k : ℕ) → AllDigits 10 bytes → length bytes ≤ k → digits_value 10 bytes < 10 ^ k
-value_below bytes k ds le = digits_value_short own bytes k ds le
 
 -- how large a number of so many digits is
 pub below_digits : (k n : ℕ) → length (spelt n) ≤ k → n < 10 ^ k
@@ -69,37 +67,36 @@ few_digits k n pos-k lt fits = subst (λ ds. length ds ≤ k) (decimal_spelt n f
 pub not_in_spelt : (b n : ℕ) → (IsInRange 48 57 b → ⊥) → (k : ℕ) → k < length (spelt n) → slice_index (spelt n) k ≢ b
 not_in_spelt b n out = not_in_digits own (spelt n) b (digits_spelt n) out
 
--- the bytes that are a number: digits, at least one and at most 13, and no leading zero
-pub record Plain (bytes : List ℕ) : Type 0 where
+-- the bytes that are a number: digits, at least one and at most so many, and no leading zero
+pub record Plain (most : ℕ) (bytes : List ℕ) : Type 0 where
   pub all_digits : AllDigits 10 bytes
   pub some : 0 < length bytes
-  pub short : length bytes ≤ 13
+  pub short : length bytes ≤ most
   pub lead : slice_index_or bytes 0 0 ≡ 48 → length bytes ≡ 1
 
 one_digit : (n : ℕ) → (0 < n → ⊥) → length (spelt n) ≡ 1
 one_digit zero h = refl
 one_digit (suc n) h = absurd (h (omega arith))
 
-pub plain_from_spells : (bytes : List ℕ) (n : ℕ) → Spells unsigned bytes n → Plain bytes
-plain_from_spells bytes n (e, few) = subst Plain (sym e) (record {
+pub plain_from_spells : (most : ℕ) (bytes : List ℕ) (n : ℕ) → SpellsWithin most unsigned bytes n → Plain most bytes
+plain_from_spells most bytes n (e, few) = subst (Plain most) (sym e) (record {
   all_digits = digits_spelt n;
   some = (first_digit n).0;
   short = few;
   lead = λ z. one_digit n (λ p. omega (arith, (first_digit n).1 p));
 })
 
-pub spells_from_plain : (bytes : List ℕ) → Plain bytes → Spells unsigned bytes (digits_value 10 bytes)
-spells_from_plain bytes p =
-    let small = digits_value_short own bytes 13 p.all_digits p.short in
-    let e = sym (decimal_spelt (digits_value 10 bytes) (omega arith)) ∙ decimal-digits_value own bytes p.all_digits p.some p.lead (omega arith) in
-    (sym e, subst (λ ds. length ds ≤ 13) (sym e) p.short)
+pub spells_from_plain : (most : ℕ) (bytes : List ℕ) → Plain most bytes → digits_value 10 bytes < 2 ^ 64 → SpellsWithin most unsigned bytes (digits_value 10 bytes)
+spells_from_plain most bytes p small =
+    let e = sym (decimal_spelt (digits_value 10 bytes) small) ∙ decimal-digits_value own bytes p.all_digits p.some p.lead small in
+    (sym e, subst (λ ds. length ds ≤ most) (sym e) p.short)
 
 -- one number only
 pub one_number : (bytes : List ℕ) (m n : ℕ) → Spells unsigned bytes m → Spells unsigned bytes n → m ≡ n
 one_number bytes m n (p, _) (q, _) = same_from_spelt m n (sym p ∙ q)
 
 no_minus : (bytes : List ℕ) (n : ℕ) → Spells unsigned bytes n → slice_index bytes 0 ≢ 45
-no_minus bytes n s e = let p = plain_from_spells bytes n s in let d = digit_at bytes 0 p.all_digits p.some in omega arith
+no_minus bytes n s e = let p = plain_from_spells 13 bytes n s in let d = digit_at bytes 0 p.all_digits p.some in omega arith
 
 -- after a minus, only a number above 0
 pub no_level : (bytes rest : List ℕ) → bytes ≡ 45 ∷ rest → ((n : ℕ) → Spells unsigned rest n → n ≡ 0) → (z : ℤ) → Spells signed bytes z → ⊥

@@ -1,5 +1,7 @@
 -- The sections of a record and the letters that open them.
-use Rattle.std.specs.Prelude.{◌≡◌, ℕ, Option, MatchOption, ◌≢◌}
+use Rattle.std.specs.Prelude.{◌≡◌, ℕ, Result}
+use Rattle.tables.specs.declared.refusal.Refusal.{Refusal}
+use Rattle.text.specs.Numbers.{Reads}
 use Rattle.text.specs.declared.section.Section.{Section}
 use Rattle.text.specs.declared.section.Section.TheVariants.{Kinds, Items, Members, Holdings, Offers, Levels}
 
@@ -12,6 +14,6 @@ letter Holdings = 72
 letter Offers = 79
 letter Levels = 76
 
--- the section that the letter opens, or none where it opens no section
-abbrev pub Opened : ℕ → Option Section → Type 0
-Opened b r = MatchOption r ((s : Section) → letter s ≢ b) (λ s. letter s ≡ b)
+-- the section that the letter opens, or a departure from the layout where it opens no section
+abbrev pub Opened : ℕ → Result Section Refusal → Type 0
+Opened b r = Reads (λ s. letter s ≡ b) r

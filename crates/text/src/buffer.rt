@@ -1,11 +1,12 @@
-ghost use Rattle.std.specs.Prelude.{◌≡◌, [], ◌∷◌, ◌++◌};
-ghost use Rattle.text.specs.Buffers.{written, Put, Copied};
+ghost use Rattle.std.specs.Prelude.{◌≡◌, [], ◌∷◌};
+ghost use Rattle.text.specs.Buffers.{Put, Copied};
 ghost use Rattle.text.specs.Numbers.{spelt, level_spelt};
 ghost use Rattle.text.specs.Rows.{row_spelt};
 ghost use Rattle.text.specs.Sections.{letter};
 
 use super::numeral::Numeral;
 use super::section::Section;
+use std::marker::Model;
 use tables::refusal::Refusal;
 use tables::table::Table;
 
@@ -15,23 +16,43 @@ pub struct Buffer {
     bytes: Table<u8, 32768>,
 }
 
+// Contracts see a buffer as the bytes that were put in.
+impl Model for Buffer {
+    ghost use Rattle.std.specs.Prelude.{◌≤◌, ℕ, List, length};
+
+    ghost Value = { List ℕ };
+
+    ghost view = { λ b. b.bytes };
+
+    ghost invariant = { λ b. length b.bytes ≤ 32768 };
+}
+
+// A buffer with nothing in it.
+impl Default for Buffer {
+    ghost is_default = { λ b. b ≡ [] };
+
+    fn default() -> Buffer {
+        Buffer::new()
+    }
+}
+
 impl Buffer {
     pub fn new() -> Buffer
-        ensures { written result ≡ [] }
+        ensures { result ≡ [] }
     {
         Buffer {
-            bytes: Table::new(0),
+            bytes: Table::default(),
         }
     }
 
     pub fn as_slice(&self) -> &[u8]
-        ensures { result.now ≡ written self.now }
+        ensures { result.now ≡ self.now }
     {
         self.bytes.as_slice()
     }
 
     pub fn put(&mut self, bytes: &[u8]) -> Result<(), Refusal>
-        ensures { Put (written self.old) (written self.new) bytes.now result }
+        ensures { Put self.old self.new bytes.now result }
     {
         for b in bytes {
             self.bytes.push(*b)?;
@@ -39,9 +60,9 @@ impl Buffer {
         Ok(())
     }
 
-    // Puts a number in, in decimal digits.
+    // Puts a number in, in decimal digits. std has no plainer form: it does not say how much a failed `write!` has put in.
     pub fn number(&mut self, n: u64) -> Result<(), Refusal>
-        ensures { Put (written self.old) (written self.new) (spelt n) result }
+        ensures { Put self.old self.new (spelt n) result }
     {
         if n < 10 {
             return self.put(&[b'0' + n as u8]);
@@ -52,7 +73,7 @@ impl Buffer {
 
     // Puts a number in, with a minus where it is below 0.
     pub fn level(&mut self, z: i64) -> Result<(), Refusal>
-        ensures { Put (written self.old) (written self.new) (level_spelt z) result }
+        ensures { Put self.old self.new (level_spelt z) result }
     {
         if z < 0 {
             self.put(b"-")?;
@@ -62,12 +83,14 @@ impl Buffer {
 
     // Puts numbers in, with one space between.
     pub fn row<T: Numeral>(&mut self, numbers: &[T]) -> Result<(), Refusal>
-        ensures { Put (written self.old) (written self.new) (row_spelt T.Numeral.notation numbers.now) result }
+        ensures { Put self.old self.new (row_spelt T.Numeral.notation numbers.now) result }
     {
-        for (i, x) in numbers.iter().enumerate() {
-            if i > 0 {
-                self.put(b" ")?;
-            }
+        let Some((first, others)) = numbers.split_first() else {
+            return self.put(b"");
+        };
+        first.write(self)?;
+        for x in others {
+            self.put(b" ")?;
             x.write(self)?;
         }
         Ok(())
@@ -75,7 +98,7 @@ impl Buffer {
 
     // Puts a section's head in: its letter, one space and the count.
     pub fn head(&mut self, section: Section, count: u64) -> Result<(), Refusal>
-        ensures { Put (written self.old) (written self.new) (letter section ∷ 32 ∷ spelt count) result }
+        ensures { Put self.old self.new (letter section ∷ 32 ∷ spelt count) result }
     {
         self.put(&[section.letter(), b' '])?;
         self.number(count)
@@ -83,22 +106,21 @@ impl Buffer {
 
     // Ends the line.
     pub fn end_line(&mut self) -> Result<(), Refusal>
-        ensures { Put (written self.old) (written self.new) (10 ∷ []) result }
+        ensures { Put self.old self.new (10 ∷ []) result }
     {
         self.put(b"\n")
     }
 
     // Copies the text to the start of a page and answers its length; a shorter page stays as it is.
     pub fn copy_to(&self, page: &mut [u8]) -> Result<usize, Refusal>
-        ensures { Copied (written self.now) page.old page.new result }
+        ensures { Copied self.now page.old page.new result }
     {
         let text = self.as_slice();
-        if page.len() < text.len() {
+        let len = text.len();
+        if page.len() < len {
             return Err(Refusal::Page);
         }
-        for (i, b) in text.iter().enumerate() {
-            page[i] = *b;
-        }
-        Ok(text.len())
+        page[..len].copy_from_slice(text);
+        Ok(len)
     }
 }

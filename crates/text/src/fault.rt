@@ -1,14 +1,27 @@
-ghost use Rattle.std.specs.Prelude.{◌≡◌};
-ghost use Rattle.text.specs.Faults.{fault_at, result_at};
+ghost use Rattle.std.specs.Prelude.{◌≡◌, Some};
+ghost use Rattle.text.specs.Faults.{fault_at, result_at, fault_described};
 
+use std::error::Error;
+use std::fmt;
 use tables::refusal::Refusal;
 
 // Why a text is refused, and at which line; lines count from 1.
-#[derive(Clone, Copy)]
+#[derive(Clone, Copy, Debug, PartialEq, Eq)]
 pub struct Fault {
     pub refusal: Refusal,
     pub line: u32,
 }
+
+// The line, and why the text is refused there.
+impl fmt::Display for Fault {
+    ghost output = { λ f. Some (fault_described f) };
+
+    fn fmt<W: fmt::Write>(&self, f: &mut fmt::Formatter<W>) -> fmt::Result {
+        write!(f, "line {}: refused, {}", self.line, self.refusal)
+    }
+}
+
+impl Error for Fault {}
 
 // A refusal that concerns the text as a whole stands at line 0.
 impl From<Refusal> for Fault {
@@ -23,8 +36,5 @@ impl From<Refusal> for Fault {
 pub fn at_line<T>(line: u32, r: Result<T, Refusal>) -> Result<T, Fault>
     ensures { result ≡ result_at line r }
 {
-    match r {
-        Ok(x) => Ok(x),
-        Err(refusal) => Err(Fault { refusal, line }),
-    }
+    r.map_err(|refusal| Fault { refusal, line })
 }

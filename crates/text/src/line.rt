@@ -8,8 +8,8 @@ use super::row::Row;
 use super::section::Section;
 use tables::refusal::Refusal;
 
-// The sorts of lines.
-#[derive(Clone, Copy)]
+// The sorts of lines. A sort is asked for before there is a line, so it is an enum of its own beside `Line`.
+#[derive(Clone, Copy, Debug, PartialEq, Eq)]
 pub enum Sort {
     Head,
     Name,
@@ -18,7 +18,7 @@ pub enum Sort {
 
 // What a line is read as: a section's head with its count, a name, or a row of numbers.
 // A name and a row are still parts of the text.
-#[derive(Clone, Copy)]
+#[derive(Clone, Copy, Debug, PartialEq, Eq)]
 pub enum Line<'a> {
     Head(Section, u64),
     Name(&'a [u8]),
@@ -72,11 +72,9 @@ impl<'a> Line<'a> {
 fn read_head<'a>(bytes: &'a [u8]) -> Result<Line<'a>, Refusal>
     ensures { Reads (Says Sort.Head bytes.now) result }
 {
-    match bytes {
-        [letter, 32, digits @ ..] => match Section::opened_by(*letter) {
-            Some(section) => Ok(Line::Head(section, number(digits)?)),
-            None => Err(Refusal::Layout),
-        },
-        _ => Err(Refusal::Layout),
-    }
+    let [letter, b' ', digits @ ..] = bytes else {
+        return Err(Refusal::Layout);
+    };
+    let section = Section::try_from(*letter)?;
+    Ok(Line::Head(section, number(digits)?))
 }

@@ -1,4 +1,4 @@
-ghost use Rattle.text.specs.Buffers.{written, Put};
+ghost use Rattle.text.specs.Buffers.{Put};
 ghost use Rattle.text.specs.Numbers.{Notation, Legible, Reads, Spells, unsigned, signed};
 ghost use Rattle.text.specs.NumbersLemmas.{legible_unsigned, legible_signed};
 
@@ -7,11 +7,9 @@ use super::number::{level, number};
 use tables::refusal::Refusal;
 
 // A sort of number that rows are made of.
-pub trait Numeral: Copy {
+pub trait Numeral: Copy + Default {
     // how its numbers are spelt
     ghost notation: { Notation Self };
-
-    const ZERO: Self;
 
     // The number that the bytes spell.
     fn read(bytes: &[u8]) -> Result<Self, Refusal>
@@ -19,15 +17,13 @@ pub trait Numeral: Copy {
 
     // Puts the number into a buffer.
     fn write(self, buffer: &mut Buffer) -> Result<(), Refusal>
-        ensures { Put (written buffer.old) (written buffer.new) (notation.spelling self) result };
+        ensures { Put buffer.old buffer.new (notation.spelling self) result };
 
     ghost legible: { Legible notation };
 }
 
 impl Numeral for u64 {
     ghost notation = { unsigned };
-
-    const ZERO: u64 = 0;
 
     ghost legible = { legible_unsigned };
 
@@ -42,8 +38,6 @@ impl Numeral for u64 {
 
 impl Numeral for i64 {
     ghost notation = { signed };
-
-    const ZERO: i64 = 0;
 
     ghost legible = { legible_signed };
 

@@ -1,7 +1,7 @@
 ghost use Rattle.text.specs.Parts.{Cut};
 
 // Bytes before and after a separator.
-#[derive(Clone, Copy)]
+#[derive(Clone, Copy, Debug, PartialEq, Eq)]
 pub struct Parts<'a> {
     pub before: &'a [u8],
     pub after: &'a [u8],
@@ -11,13 +11,9 @@ pub struct Parts<'a> {
 pub fn cut<'a>(bytes: &'a [u8], separator: u8) -> Option<Parts<'a>>
     ensures { Cut separator bytes.now result }
 {
-    for (i, b) in bytes.iter().enumerate() {
-        if *b == separator {
-            return Some(Parts {
-                before: &bytes[0..i],
-                after: &bytes[i + 1..],
-            });
-        }
-    }
-    None
+    let at = bytes.iter().position(|b| *b == separator)?;
+    Some(Parts {
+        before: &bytes[..at],
+        after: &bytes[at + 1..],
+    })
 }

@@ -3,6 +3,7 @@ ghost use Rattle.std.specs.Prelude.{◌+◌, ◌≤◌, length};
 mod calls;
 
 // What is left of a text to be read, and the number of its first line.
+// No one value is plainer: the layout's contracts name both fields.
 #[derive(Drop)]
 pub struct Reader<'a> {
     rest: &'a [u8],

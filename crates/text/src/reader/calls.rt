@@ -40,12 +40,7 @@ impl<'a> Reader<'a> {
         ensures { Next (Says sort) self.old self.new result }
     {
         let number = self.line;
-        let Some(parts) = cut(self.rest, 10) else {
-            return Err(Fault {
-                refusal: Refusal::Layout,
-                line: number,
-            });
-        };
+        let parts = at_line(number, cut(self.rest, b'\n').ok_or(Refusal::Layout))?;
         let line = at_line(number, Line::read(sort, parts.before))?;
         self.rest = parts.after;
         self.line = number + 1;
@@ -56,7 +51,7 @@ impl<'a> Reader<'a> {
     pub fn end(&self) -> Result<(), Fault>
         ensures { Ended self.now result }
     {
-        if self.rest.len() > 0 {
+        if !self.rest.is_empty() {
             return Err(Fault {
                 refusal: Refusal::Layout,
                 line: self.line,

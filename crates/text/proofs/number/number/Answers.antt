@@ -1,54 +1,7 @@
-use Rattle.std.proofs.Common.{◌≡◌, ℕ, ◌-◌, ◌^◌, ◌<◌, ◌≤◌, List, length, get_or, take, sym, refl, ap, ◌∙◌, subst, arith, rules}
-use Rattle.std.specs.Str.Parse.{digits_value, AllDigits}
-use Rattle.std.specs.Char.{digit_value}
-use Rattle.std.proofs.lemmas.Str.{digit_value_digit}
-use Rattle.std.proofs.lemmas.List.{take_all, length-take}
-use Rattle.std.proofs.lemmas.Int.Digits.{digits_value_more, digits_more}
-use Rattle.std.proofs.lemmas.Str.Parse.{digit_at}
-use Rattle.text.specs.NumbersLemmas.{Plain, plain_from_spells, spells_from_plain, value_below}
-use Rattle.text.specs.Numbers.{Spells, unsigned}
+use Rattle.std.proofs.Common.{arith}
+use Rattle.std.proofs.lemmas.Result.{MatchResult-weaker}
+use Rattle.text.specs.NumbersLemmas.{below_digits}
 use Rattle.text.proofs.number.number.Goals as goal
-use Rattle.text.proofs.number.number.Goals.{else-n-gt1-via-then-n-gt1+else-bytes-eq48, else-n-gt1-via-else-n-gt1}
-
-pub returns-then-n-eq0 : goal.returns-then-n-eq0
-returns-then-n-eq0 c = (refl, λ n s. let p = plain_from_spells _ n s in omega (arith, p.some, p.short))
-
-pub returns-then-bytes-eq48 : goal.returns-then-bytes-eq48
-returns-then-bytes-eq48 c = (refl, λ n s. let p = plain_from_spells _ n s in omega (arith, p.lead (omega arith)))
-
-pub returns-then-digit-lt48 : goal.returns-then-digit-lt48
-returns-then-digit-lt48 c = (refl, λ n s. let p = plain_from_spells _ n s in let d = digit_at _ c.loop-b.b-index p.all_digits (search rules) in omega arith)
-
--- a number of at most 12 digits, times ten, leaves room for one more
-small : (bs : List ℕ) (i v : ℕ) → i < length bs → length bs ≤ 13 → v ≡ digits_value 10 (take i bs) → AllDigits 10 (take i bs) → v < 10 ^ 12
-small bs i v lt le e ds = omega (arith, value_below (take i bs) 12 ds (simp length-take (omega arith)))
-
-pub overflow_mul-value : goal.overflow_mul-value
-overflow_mul-value c = let v = small _ _ _ c.loop-b-test.true (omega arith) c.loop-b.invariant.0 c.loop-b.invariant.1 in omega arith
-
-pub overflow_add-value : goal.overflow_add-value
-overflow_add-value c = let v = small _ _ _ c.loop-b-test.true (omega arith) c.loop-b.invariant.0 c.loop-b.invariant.1 in omega arith
-
-digit_is : (b : ℕ) → 48 ≤ b → b ≤ 57 → digit_value b ≡ b - 48
-digit_is b lo hi = omega (arith, digit_value_digit b (lo, hi))
-
-pub loop-b-preserved : goal.loop-b-preserved
-loop-b-preserved c =
-    let bs = c.args.bytes.now in
-    let i = c.loop-b.b-index in
-    let lt = c.loop-b-test.true in
-    let d = digit_is (get_or bs i 0) c.if-digit-lt48.false c.if-digit-gt57.false in
-    let v = digits_value_more 10 bs i lt in
-    (omega (arith, v, d, c.loop-b.invariant.0, c.from.ensures), digits_more 10 bs i lt c.loop-b.invariant.1 (omega arith))
 
 pub returns : goal.returns
-returns c =
-    let bs = c.args.bytes.now in
-    let all : take c.loop-b.b-index bs ≡ bs = take_all _ bs (omega arith) in
-    let p : Plain bs = record {
-      all_digits = rw all at c.loop-b.invariant.1;
-      some = omega arith;
-      short = omega arith;
-      lead = λ e. elim c.else-n-gt1.branch [ else-n-gt1-via-then-n-gt1+else-bytes-eq48 w ↦ absurd (w.if-bytes-eq48.false e) | else-n-gt1-via-else-n-gt1 w ↦ omega (arith, w.if-n-gt1.false) ];
-    } in
-    subst (Spells unsigned bs) (sym (c.loop-b.invariant.0 ∙ ap (digits_value 10) all)) (spells_from_plain bs p)
+returns c = MatchResult-weaker c.digits.result c.digits.ensures (λ n s. s.0) (λ e q. (q.0, λ n s. q.1 n (s, omega (arith, below_digits 13 n s.1))))

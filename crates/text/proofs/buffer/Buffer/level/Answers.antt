@@ -2,7 +2,6 @@ use Rattle.std.proofs.Common.{◌≡◌, true, false, ℤ, pos, nat_abs, ◌≤�
 use lib.Signed.{lt_z}
 use Rattle.std.proofs.lemmas.Int.{ints, to_z-of_z}
 use Rattle.std.proofs.lemmas.Result.{err_from_is_err_and}
-use Rattle.text.specs.Buffers.{written}
 use Rattle.text.specs.Numbers.{spelt}
 use Rattle.text.specs.NumbersLemmas.{level_below, level_above}
 use Rattle.text.proofs.Puts.{put_from, put_then, put_stop, put_same}
@@ -25,6 +24,6 @@ returns c =
     let size = c.unsigned_abs.ensures.value ∙ ap nat_abs (to_z-of_z w64 z c.ranges.z) in
     let n = put_same (ap spelt size) c.number.ensures in
     elim c.if-z-lt0.branch [
-      | then-z-lt0+in_ok-put w ↦ put_same (sym (level_below z ((signs z c.ranges.z).0 w.if-z-lt0.true))) (put_then w.in_ok-put.ensures (put_from (ap written w.self-is) n))
-      | else-z-lt0 w ↦ put_same (sym (level_above z ((signs z c.ranges.z).1 w.if-z-lt0.false))) (put_from (ap written w.self-is) n)
+      | then-z-lt0+in_ok-put w ↦ put_same (sym (level_below z ((signs z c.ranges.z).0 w.if-z-lt0.true))) (put_then w.in_ok-put.ensures (put_from w.self-is n))
+      | else-z-lt0 w ↦ put_same (sym (level_above z ((signs z c.ranges.z).1 w.if-z-lt0.false))) (put_from w.self-is n)
     ]

@@ -1,44 +1,41 @@
-use Rattle.std.proofs.Common.{ap}
+use Rattle.std.proofs.Common.{Err, ap}
 use Rattle.std.proofs.lemmas.List.{take_all}
 use Rattle.std.proofs.lemmas.Result.{err_from_is_err_and}
-use Rattle.text.specs.Buffers.{written}
-use Rattle.text.specs.Rows.{row_spelt}
-use Rattle.text.proofs.Puts.{written_few, put_none, put_same, put_from, put_spaced, put_first, put_gap, put_cut}
+use Rattle.text.specs.Rows.{spaced}
+use Rattle.text.proofs.Puts.{put_few, put_none, put_same, put_spaced, put_gap, put_cut, put_row, put_no_row}
 use Rattle.text.proofs.buffer.Buffer.row.Goals as goal
-use Rattle.text.proofs.buffer.Buffer.row.Goals.{then-i-gt0+in_ok-put, else-i-gt0}
-
-pub loop-i-init : goal.loop-i-init
-loop-i-init g c = put_none _ (written_few c.args.self.now)
-
-pub returns-in_err-put : goal.returns-in_err-put
-returns-in_err-put g c =
-    let p = err_from_is_err_and c.from_residual.result c.from_residual.ensures.1 in
-    rw (p.1, p.2) (put_gap g.T.Numeral.notation c.args.numbers.now c.loop-i.i c.loop-i-test.true c.index-numbers-i.result c.index-numbers-i.is c.if-i-gt0.true c.loop-i.invariant c.in_err-put.ensures)
 
 pub returns-in_err-write : goal.returns-in_err-write
 returns-in_err-write g c =
-    let p = err_from_is_err_and c.from_residual-in_err-write.result c.from_residual-in_err-write.ensures.1 in
-    let n = g.T.Numeral.notation in
-    let ns = c.args.numbers.now in
-    let i = c.loop-i.i in
-    let lt = c.loop-i-test.true in
-    let x = c.index-numbers-i.result in
-    rw (p.1, p.2) (put_cut n ns i lt (elim c.if-i-gt0.branch [
-      | then-i-gt0+in_ok-put w ↦ put_spaced n ns i lt x c.index-numbers-i.is w.if-i-gt0.true c.loop-i.invariant w.in_ok-put.ensures (put_from (ap written w.self-is) c.in_err-write.ensures)
-      | else-i-gt0 w ↦ put_first n ns i lt x c.index-numbers-i.is w.if-i-gt0.false c.loop-i.invariant (put_from (ap written w.self-is) c.in_err-write.ensures)
-    ]))
+    let p = err_from_is_err_and c.from_residual.result c.from_residual.ensures.1 in
+    rw (p.1, p.2) (put_no_row g.T.Numeral.notation _ _ c.in-Some.ensures.cases.0 c.in_err-write.ensures)
 
-pub loop-i-preserved : goal.loop-i-preserved
-loop-i-preserved g c =
+pub loop-x-init : goal.loop-x-init
+loop-x-init g c = put_none _ (put_few c.in_ok-write.ensures)
+
+pub returns-in_err-put : goal.returns-in_err-put
+returns-in_err-put g c =
+    let p = err_from_is_err_and c.from_residual-in_err-put.result c.from_residual-in_err-put.ensures.1 in
     let n = g.T.Numeral.notation in
-    let ns = c.args.numbers.now in
-    let i = c.loop-i.i in
-    let lt = c.loop-i-test.true in
-    let x = c.index-numbers-i.result in
-    elim c.if-i-gt0.branch [
-      | then-i-gt0+in_ok-put w ↦ put_spaced n ns i lt x c.index-numbers-i.is w.if-i-gt0.true c.loop-i.invariant w.in_ok-put.ensures (put_from (ap written w.self-is) c.in_ok-write.ensures)
-      | else-i-gt0 w ↦ put_first n ns i lt x c.index-numbers-i.is w.if-i-gt0.false c.loop-i.invariant (put_from (ap written w.self-is) c.in_ok-write.ensures)
-    ]
+    let gap = put_gap n c.in-Some.others.now c.loop-x.x-index c.loop-x-test.true c.x-item.result c.x-item.is c.loop-x.invariant c.in_err-put.ensures in
+    rw (p.1, p.2) (put_row n _ _ c.in-Some.ensures.cases.0 c.in_ok-write.ensures gap)
+
+pub returns-in_err-write-2 : goal.returns-in_err-write-2
+returns-in_err-write-2 g c =
+    let p = err_from_is_err_and c.from_residual-in_err-write-2.result c.from_residual-in_err-write-2.ensures.1 in
+    let n = g.T.Numeral.notation in
+    let xs = c.in-Some.others.now in
+    let i = c.loop-x.x-index in
+    let lt = c.loop-x-test.true in
+    let x = c.x-item.result in
+    let cut = put_cut n xs i lt x c.x-item.is (put_spaced n xs i lt x c.x-item.is {r = Err c.in_err-write-2.field-0.0} c.loop-x.invariant c.in_ok-put.ensures c.in_err-write-2.ensures) in
+    rw (p.1, p.2) (put_row n _ _ c.in-Some.ensures.cases.0 c.in_ok-write.ensures cut)
+
+pub loop-x-preserved : goal.loop-x-preserved
+loop-x-preserved g c = put_spaced g.T.Numeral.notation c.in-Some.others.now c.loop-x.x-index c.loop-x-test.true c.x-item.result c.x-item.is c.loop-x.invariant c.in_ok-put.ensures c.in_ok-write-2.ensures
 
 pub returns : goal.returns
-returns g c = put_same (ap (λ l. row_spelt g.T.Numeral.notation l) (take_all c.loop-i.i c.args.numbers.now c.loop-i-test.false)) c.loop-i.invariant
+returns g c =
+    let n = g.T.Numeral.notation in
+    let all = put_same (ap (spaced n) (take_all c.loop-x.x-index c.in-Some.others.now c.loop-x-test.false)) c.loop-x.invariant in
+    put_row n _ _ c.in-Some.ensures.cases.0 c.in_ok-write.ensures all

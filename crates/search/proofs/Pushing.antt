@@ -1,5 +1,5 @@
 -- A cycle shifted along, one push after another.
-use Rattle.std.proofs.Common.{◌≡◌, ℕ, ◌+◌, ◌-◌, ◌*◌, ◌<◌, ◌≤◌, Bool, true, false, eqb, List, [], ◌∷◌, length, set, ℤ, pos, ◌+ℤ◌, ◌-ℤ◌, nat_abs, Some, Ok, Err, Option, Result, sym, refl, ap, ◌∙◌, subst, subst₂, ⊎_elim, mul-le-mul, mul-one, mul-add, arith, w64, SFits, to_z, of_z}
+use Rattle.std.proofs.Common.{◌≡◌, ℕ, ◌+◌, ◌-◌, ◌*◌, ◌<◌, ◌≤◌, Bool, true, false, eqb, List, [], ◌∷◌, length, set, ℤ, pos, ◌+ℤ◌, ◌-ℤ◌, nat_abs, Ok, Err, Option, Result, sym, refl, ap, ◌∙◌, subst, subst₂, ⊎_elim, mul-le-mul, mul-one, mul-add, arith, w64, SFits, to_z, of_z}
 use Rattle.std.proofs.lemmas.List.{length-set, get_or-set_same, get_or-set_other}
 use Rattle.std.proofs.lemmas.Int.{ints, to_z-of_z}
 use Rattle.std.proofs.lemmas.Bool.{cases_eq, eq-eqb, ne_eqb}
@@ -8,14 +8,14 @@ use Rattle.worth.specs.Kinds.{Ops}
 use Rattle.flow.specs.Groups.{Kind, times}
 use Rattle.flow.specs.Graphs.{Graph, when, worth}
 use Rattle.flow.specs.Arcs.{blank, arc_at, net, flow_of, SameArcs, SameArc, with_flow}
-use Rattle.flow.specs.Steps.{arc, starts, Apart, residual, Allows, Shifted, fore, rear, gain}
+use Rattle.flow.specs.Steps.{arc, starts, Apart, Allows, Shifted, fore, rear, gain}
 use Rattle.flow.specs.declared.arc.Arc.{Arc}
 use Rattle.flow.specs.declared.step.Step.{Step}
 use Rattle.flow.specs.declared.step.Step.TheVariants.{Forward, Backward}
 use Rattle.flow.proofs.Group.{unit_right}
 use Rattle.flow.proofs.Rows.{same_arc_refl, net_same}
 use Rattle.flow.proofs.Shift.{fore_capacity, rear_capacity, rise_holds}
-use Rattle.network.specs.Networks.{Net, Sound, flow_in, put_flow, graph, value}
+use Rattle.network.specs.Networks.{Net, flow_in, put_flow, graph, value}
 use Rattle.network.specs.Pushes.{Pushed}
 use Rattle.search.specs.Links.{SoundArcs, onto}
 use Rattle.search.specs.Cycles.{Measured, Takes, taken}

@@ -1,7 +1,7 @@
 -- Steps relaxed one after another, and sweep after sweep.
-use Rattle.std.proofs.Common.{◌≡◌, ℕ, suc, ◌+◌, ◌*◌, ◌<◌, ◌≤◌, Bool, true, false, ◌||◌, List, length, get_or, set, Some, None, Option, sym, refl, ap, ◌∙◌, subst, ap₂, subst₂, ⊎_elim, arith}
+use Rattle.std.proofs.Common.{get_or, ◌≡◌, ℕ, zero, suc, [], ◌∷◌, ◌+◌, ◌*◌, ◌<◌, ◌≤◌, Bool, true, false, ◌||◌, List, length, set, Some, None, Option, sym, refl, ap, ◌∙◌, subst, ap₂, subst₂, ⊎_elim, arith}
 use Rattle.std.proofs.lemmas.Bool.{cases_eq, false≢true, true≢false, cases_lt}
-use Rattle.std.proofs.lemmas.List.{get_or_default, get_or-set_same, get_or-set_other}
+use Rattle.std.proofs.lemmas.List.{get_or-set_same, get_or-set_other}
 use Rattle.flow.specs.Groups.{Kind, Lt, Le}
 use Rattle.flow.specs.Graphs.{Graph, Sound, Fits}
 use Rattle.flow.specs.Arcs.{net, flow_of}
@@ -12,7 +12,7 @@ use Rattle.flow.specs.declared.step.Step.TheVariants.{Forward, Backward}
 use Rattle.flow.proofs.Group.{le_trans, le_right, lt_le, le_lt_trans, le_eq, le_lt_absurd}
 use Rattle.flow.proofs.Reach.{reach, sweep_above, fits_from}
 use Rattle.network.specs.Potentials.{potential}
-use Rattle.std.specs.declared.ops.ControlFlow.TheVariants.{Continue, Break}
+use Rattle.std.specs.declared.ops.ControlFlow.TheVariants.{Continue}
 use Rattle.search.specs.Links.{SoundArcs, tail_of, head_of, residual_of, Unlinked, Rooted, Told}
 use Rattle.search.specs.Sweeps.{code, Small, offer, Offered, Forest, Closing, Relaxed, Swept, Sweeps, Found}
 use Rattle.search.specs.Searches.{Growing}
@@ -28,6 +28,17 @@ code_arc (Backward i) m h = omega arith
 arc_code : (s : Step) (m : ℕ) → arc s < m → code s < 2 * m
 arc_code (Forward i) m h = omega arith
 arc_code (Backward i) m h = omega arith
+
+-- the two steps along an arc
+pub both_code : (p : List Step) (i k : ℕ) (d : Step) → p ≡ Forward i ∷ Backward i ∷ [] → k < 2 → code (get_or p k d) ≡ 2 * i + k
+both_code p i zero d e h = rw e (omega arith)
+both_code p i (suc zero) d e h = rw e refl
+both_code p i (suc (suc k)) d e h = absurd (omega arith)
+
+pub both_arc : (p : List Step) (i k : ℕ) (d : Step) → p ≡ Forward i ∷ Backward i ∷ [] → k < 2 → arc (get_or p k d) ≡ i
+both_arc p i zero d e h = rw e refl
+both_arc p i (suc zero) d e h = rw e refl
+both_arc p i (suc (suc k)) d e h = absurd (omega arith)
 
 one_code : (s t : Step) → code s ≡ code t → s ≡ t
 one_code (Forward i) (Forward j) e = let f : i ≡ j = omega arith in ap Forward f
@@ -184,5 +195,7 @@ module _ {W : Type 0} (G : Kind W) (s t : Search W) (moved : Bool) (k : ℕ) (w 
   pub may_relax : Growing G.ops 999000 s → k ≤ 1000 → Growing G.ops 1000000 t
   may_relax r h = record { forest = subst (λ n. Forest G.ops n.nodes n.arcs.now t.potentials.now t.links) (sym w.net) w.swept.forest; small = λ v. let z = w.swept.sizes 999000 r.small v in omega arith }
 
-  pub swept_on : (u : Search W) → u.net ≡ t.net → u.potentials.ghost_name ≡ t.potentials.ghost_name → (step : Step) → code step ≡ k → arc step < length s.net.arcs.now → (r : Bool) → Relaxed G.ops t.net.nodes t.net.arcs.now t.potentials.now t.links u.potentials.now u.links step (Continue r) → SweptTo G.ops s u (moved || r) (k + 1)
-  swept_on u net held step number known r o = record { net = net ∙ w.net; held = held ∙ w.held; swept = swept_relaxed G s.net.nodes s.net.arcs.now s.potentials.now t.potentials.now u.potentials.now t.links u.links moved k step number w.swept known r (subst (λ n. Relaxed G.ops n.nodes n.arcs.now t.potentials.now t.links u.potentials.now u.links step (Continue r)) w.net o) }
+  pub swept_on : (u : Search W) → u.net ≡ t.net → u.potentials.ghost_name ≡ t.potentials.ghost_name → (step : Step) → code step ≡ k → arc step < length s.net.arcs.now → (r : Bool) → Relaxed G.ops t.net.nodes t.net.arcs.now t.potentials.now t.links u.potentials.now u.links step (Continue r) → (k' : ℕ) → k' ≡ k + 1 → SweptTo G.ops s u (moved || r) k'
+  swept_on u net held step number known r o k' next =
+      let relaxed = subst (λ n. Relaxed G.ops n.nodes n.arcs.now t.potentials.now t.links u.potentials.now u.links step (Continue r)) w.net o in
+      record { net = net ∙ w.net; held = held ∙ w.held; swept = subst (Swept G.ops s.net.nodes s.net.arcs.now s.potentials.now u.potentials.now u.links (moved || r)) (sym next) (swept_relaxed G s.net.nodes s.net.arcs.now s.potentials.now t.potentials.now u.potentials.now t.links u.links moved k step number w.swept known r relaxed) }

@@ -1,5 +1,5 @@
 -- The cycle that a step closes, walked up the links, and what it allows and gains.
-use Rattle.std.proofs.Common.{◌≡◌, ℕ, zero, suc, ◌+◌, ◌<◌, ◌≤◌, ◌==◌, true, false, min, List, [], ◌∷◌, length, Some, None, Option, sym, refl, ap, ◌∙◌, subst, ap₂, arith}
+use Rattle.std.proofs.Common.{◌≡◌, ℕ, zero, suc, ◌+◌, ◌<◌, ◌≤◌, ◌==◌, true, false, min, List, [], ◌∷◌, length, Some, Option, sym, refl, ap, ◌∙◌, subst, ap₂, arith}
 use Rattle.std.proofs.lemmas.Bool.{eq-eqb, ne_eqb}
 use Rattle.worth.specs.Kinds.{Ops}
 use Rattle.flow.specs.Groups.{Kind}
@@ -9,11 +9,11 @@ use Rattle.flow.specs.Steps.{arc, step_worth, gain, residual, Allows}
 use Rattle.flow.specs.declared.arc.Arc.{Arc}
 use Rattle.flow.specs.declared.step.Step.{Step}
 use Rattle.flow.specs.declared.step.Step.TheVariants.{Forward, Backward}
-use Rattle.search.specs.Links.{SoundArcs, tail_of, head_of, residual_of, link, Linked, Trail, onto, climb, after}
+use Rattle.search.specs.Links.{SoundArcs, tail_of, head_of, residual_of, link, Trail, onto, climb, after}
 use Rattle.search.specs.Sweeps.{Closing}
-use Rattle.search.specs.Cycles.{Most, Measured}
+use Rattle.search.specs.Cycles.{Measured}
 use Rattle.search.proofs.Ways.{Known, climb_known}
-use Rattle.search.proofs.Forests.{tail_in, step_small}
+use Rattle.search.proofs.Forests.{step_small}
 
 -- the steps of the cycle that step s closes, against their direction
 abbrev pub round : List Arc → List (Option Step) → Step → List Step

@@ -1,5 +1,5 @@
 -- Ways up along the links.
-use Rattle.std.proofs.Common.{◌≡◌, ℕ, zero, suc, ◌<◌, ◌≤◌, Bool, true, false, ◌==◌, ◌||◌, ◌↔◌, List, [], ◌∷◌, length, get_or, Some, None, Option, sym, refl, subst, ap₂, ⊎_elim, arith}
+use Rattle.std.proofs.Common.{◌≡◌, ℕ, zero, suc, ◌<◌, ◌≤◌, Bool, true, false, ◌==◌, ◌↔◌, List, [], ◌∷◌, length, get_or, Some, None, Option, sym, refl, subst, ap₂, ⊎_elim, arith}
 use Rattle.std.specs.List.{AllByRecursion, list_any}
 use Rattle.std.proofs.lemmas.Bool.{true≢false, cases_eq, eq-eqb, ne_eqb}
 use Rattle.flow.specs.declared.arc.Arc.{Arc}

@@ -1,6 +1,6 @@
 // The search for a cycle worth more than none: potentials are raised in place, step by step, until a step
 // closes a cycle or a whole sweep raises nothing; then the potentials fit.
-ghost use Rattle.std.specs.Prelude.{◌≡◌, ℕ, ◌<◌, length, slice_index_or};
+ghost use Rattle.std.specs.Prelude.{◌≡◌, ℕ, ◌<◌, [], ◌∷◌, length, slice_index_or};
 ghost use Rattle.flow.specs.Steps.{arc as arc_of};
 ghost use Rattle.search.specs.Links.{Linked, Unlinked};
 ghost use Rattle.search.specs.Sweeps.{Closing, Offered, Relaxed, Sweeps, Found};
@@ -111,8 +111,9 @@ impl<'a, W: Worth> Search<'a, W> {
     {
         let mut moved = false;
         for i in 0..self.net.arcs.len() {
-            moved |= self.relax(Step::Forward(i))?;
-            moved |= self.relax(Step::Backward(i))?;
+            for step in both_ways(i) {
+                moved |= self.relax(step)?;
+            }
         }
         ControlFlow::Continue(moved)
     }
@@ -134,6 +135,13 @@ impl<'a, W: Worth> Search<'a, W> {
         }
         None
     }
+}
+
+// The two steps along an arc.
+fn both_ways(i: usize) -> [Step; 2]
+    ensures { result ≡ Step.Forward i ∷ Step.Backward i ∷ [] }
+{
+    [Step::Forward(i), Step::Backward(i)]
 }
 
 // All entries none. The library's `fill` asks for a clone that cannot fail, which a kind of worth does not promise.

@@ -1,8 +1,7 @@
 use Rattle.std.proofs.Common.{◌∙◌, ap}
 use Rattle.flow.specs.Groups.{kind}
 use Rattle.search.specs.Ascents.{steps_left}
-use Rattle.search.specs.Links.{onto}
-use Rattle.search.proofs.Rounds.{round, measuring_first, measuring_fits, measuring_next, measuring_all}
+use Rattle.search.proofs.Rounds.{measuring_first, measuring_fits, measuring_next, measuring_all}
 use Rattle.search.proofs.cycle.Cycle.measure.Goals as goal
 
 pub loop-step-init : goal.loop-step-init

@@ -3,7 +3,6 @@ use Rattle.std.proofs.lemmas.Bool.{eq-eqb}
 use Rattle.std.proofs.lemmas.Iterator.Adapters.{serves_from_places}
 use Rattle.std.proofs.lemmas.Iterator.Consumers.{YieldsList-from_first}
 use Rattle.std.proofs.lemmas.Iterator.Search.{any_from_yields_List}
-use Rattle.flow.specs.declared.step.Step.{Step}
 use Rattle.flow.specs.Steps.{arc}
 use Rattle.search.specs.Ascents.{steps_left}
 use Rattle.search.specs.Links.{climb}

@@ -1,6 +1,5 @@
-use Rattle.std.proofs.Common.{ap, sym, subst₂}
+use Rattle.std.proofs.Common.{ap}
 use Rattle.flow.specs.Groups.{kind}
-use Rattle.search.specs.Links.{Rooted}
 use Rattle.search.proofs.Forests.{forest_linked}
 use Rattle.search.proofs.Raising.{rooted, closed, raised}
 use Rattle.search.proofs.sweep.Search.relax.Goals as goal

@@ -59,7 +59,7 @@ pub begun : {W : Type 0} (o : Ops W) (s : Net) (work : List W) (sum : W) → s.n
 begun o s work sum h e = record { climb = subst (λ x. Climb o s x s) (sym e) still; beyond = record { enough = h; long = refl; rest = λ v l. refl } }
 
 -- the next improve takes the network t and the work table work₁ to u and work₂
-module _ {W : Type 0} {o : Ops W} (laws : Laws o) (s t u : Net) (work work₁ work₂ : List W) (sum : W) (w : UnderWay o s t work work₁ sum) where
+module _ {W : Type 0} {o : Ops W} (laws : Laws o) {s t : Net} {work work₁ : List W} {sum : W} (w : UnderWay o s t work work₁ sum) (u : Net) (work₂ : List W) where
   beyond_on : Beyond o t.nodes work₁ work₂ → Beyond o s.nodes work work₂
   beyond_on q = record { enough = w.beyond.enough; long = q.long ∙ w.beyond.long; rest = λ v h. q.rest v (let e = climb_nodes w.climb in omega arith) ∙ w.beyond.rest v h }
 

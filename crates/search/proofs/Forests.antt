@@ -19,7 +19,7 @@ use Rattle.network.specs.Networks.{SoundArc}
 use Rattle.network.specs.Potentials.{potential}
 use Rattle.search.specs.Links.{SoundArcs, tail_of, head_of, link, Unlinked, Linked, Up, line, Rooted, Trail, onto}
 use Rattle.search.specs.Sweeps.{offer, Joined, Forest}
-use Rattle.search.proofs.Links.{none_some, same_some, one_way}
+use Rattle.search.proofs.Ways.{none_some, same_some, one_way}
 
 -- a link set, and the others
 link_here : (ks : List (Option Step)) (v : ℕ) (s : Step) → v < length ks → link (set ks v (Some s)) v ≡ Some s
@@ -83,7 +83,7 @@ module _ {W : Type 0} (G : Kind W) (n : ℕ) (ls : List Arc) where
   step_small z (Backward i) l = omega (arith, G.laws.size_neg (N.unit i), unit_small (arc_at ls i) (z i l))
 
   -- before anything is raised
-  pub bare : (xs : List W) (ks : List (Option Step)) → SoundArcs n ls → length xs ≡ n → length ks ≡ n → ((v : ℕ) → potential G.ops xs v ≡ G.ops.none) → Unlinked ks → Forest G.ops n ls xs ks
+  pub bare : (xs : List W) (ks : List (Option Step)) → SoundArcs n ls → length xs ≡ n → n ≤ length ks → ((v : ℕ) → potential G.ops xs v ≡ G.ops.none) → Unlinked ks → Forest G.ops n ls xs ks
   bare xs ks z e f none unlinked = record {
     sound = z;
     potentials_long = e;
@@ -166,7 +166,7 @@ module _ {W : Type 0} (G : Kind W) (n : ℕ) (ls : List Arc) where
         le_trans G (L v) (gain G.ops N t.walk) (reach G N (flow_of ls) k v) (subst (λ z. Le G.ops z (gain G.ops N t.walk)) (unit_right G (L v)) t.most) (walk_under G N (flow_of ls) k t.source t.walk v t.walks (omega arith))
 
     -- a way up is shorter than there are nodes
-    way_short : (v : ℕ) (q : List Step) → v < n → Up ls ks v q → length q < n
+    pub way_short : (v : ℕ) (q : List Step) → v < n → Up ls ks v q → length q < n
     way_short v q l up =
         let t = from_root v q up in
         let few = few_steps v (length q + 0) (G.ops.plus (L v) G.ops.none) l t in
@@ -190,7 +190,7 @@ module _ {W : Type 0} (G : Kind W) (n : ℕ) (ls : List Arc) where
       grown fresh = record {
         sound = f.sound;
         potentials_long = length-set xs v a ∙ f.potentials_long;
-        links_long = length-set ks v (Some s) ∙ f.links_long;
+        links_long = omega (arith, length-set ks v (Some s), f.links_long);
         rooted = λ x l. reroot ls ks v s at_links q (avoids ls ks v s (tail_of ls s) q fresh up) x (f.rooted x l).0 (f.rooted x l).1;
         joined = joined';
         low = low';

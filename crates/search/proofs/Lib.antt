@@ -1,9 +1,8 @@
-pub mod Links
+pub mod Ways
 pub mod Forests
-pub mod Sweeps
-pub mod Cycles
+pub mod Rounds
 pub mod Pushing
-pub mod Reading
+pub mod Raising
 pub mod Working
 pub mod Idle
 pub mod Standing

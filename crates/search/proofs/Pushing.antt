@@ -1,5 +1,5 @@
 -- A cycle shifted along, one push after another.
-use Rattle.std.proofs.Common.{◌≡◌, ℕ, ◌+◌, ◌-◌, ◌*◌, ◌<◌, ◌≤◌, Bool, true, false, eqb, List, [], ◌∷◌, length, set, ℤ, pos, ◌+ℤ◌, ◌-ℤ◌, nat_abs, Some, Ok, Err, Option, Result, sym, refl, ap, ◌∙◌, subst, subst₂, ⊎_elim, mul-le-mul, mul-one, mul-add, arith, w64, SFits, to_z, of_z}
+use Rattle.std.proofs.Common.{◌≡◌, ℕ, ◌+◌, ◌-◌, ◌*◌, ◌<◌, ◌≤◌, Bool, true, false, eqb, List, [], ◌∷◌, length, set, ℤ, pos, ◌+ℤ◌, ◌-ℤ◌, nat_abs, Ok, Err, Option, Result, sym, refl, ap, ◌∙◌, subst, subst₂, ⊎_elim, mul-le-mul, mul-one, mul-add, arith, w64, SFits, to_z, of_z}
 use Rattle.std.proofs.lemmas.List.{length-set, get_or-set_same, get_or-set_other}
 use Rattle.std.proofs.lemmas.Int.{ints, to_z-of_z}
 use Rattle.std.proofs.lemmas.Bool.{cases_eq, eq-eqb, ne_eqb}
@@ -8,19 +8,20 @@ use Rattle.worth.specs.Kinds.{Ops}
 use Rattle.flow.specs.Groups.{Kind, times}
 use Rattle.flow.specs.Graphs.{Graph, when, worth}
 use Rattle.flow.specs.Arcs.{blank, arc_at, net, flow_of, SameArcs, SameArc, with_flow}
-use Rattle.flow.specs.Steps.{arc, starts, Apart, residual, Allows, Shifted, fore, rear, gain}
+use Rattle.flow.specs.Steps.{arc, starts, Apart, Allows, Shifted, fore, rear, gain}
 use Rattle.flow.specs.declared.arc.Arc.{Arc}
 use Rattle.flow.specs.declared.step.Step.{Step}
 use Rattle.flow.specs.declared.step.Step.TheVariants.{Forward, Backward}
 use Rattle.flow.proofs.Group.{unit_right}
 use Rattle.flow.proofs.Rows.{same_arc_refl, net_same}
 use Rattle.flow.proofs.Shift.{fore_capacity, rear_capacity, rise_holds}
-use Rattle.network.specs.Networks.{Net, Sound, flow_in, put_flow, graph, value}
+use Rattle.network.specs.Networks.{Net, flow_in, put_flow, graph, value}
 use Rattle.network.specs.Pushes.{Pushed}
-use Rattle.search.specs.Links.{SoundArcs, tail_of, head_of, link, onto}
+use Rattle.search.specs.Links.{SoundArcs, onto}
 use Rattle.search.specs.Cycles.{Measured, Takes, taken}
 use Rattle.search.specs.Outcomes.{Improves}
-use Rattle.search.proofs.Cycles.{Walked, walked_all, walked_first, walked_next, walked_on}
+use Rattle.search.proofs.Ways.{Known}
+use Rattle.search.proofs.Rounds.{round, round_is, round_known, onto_allows, residual_small}
 
 -- a list of arcs with the flow of one changed
 put_arcs : List Arc → ℕ → ℕ → List Arc
@@ -60,9 +61,6 @@ minus_is f d x h l e =
     let t : SFits w64 (pos 0 -ℤ x) = omega (arith, ints) in
     rw (to_z-of_z w64 x s, to_z-of_z w64 (pos 0 -ℤ x) t) (omega (arith, ints))
 
-pub arcs_sound : (m : Net) (n : ℕ) (ls : List Arc) → Sound m → ls ≡ m.arcs → n ≡ m.nodes → SoundArcs n ls
-arcs_sound m n ls s e f = subst₂ (λ k a. SoundArcs k a) (sym f) (sym e) s.each
-
 -- d for each step along an arc: one step more, or another arc
 one_more : (d f : ℕ) (b : Bool) → b ≡ true → d * (when b 1 + f) ≡ d + d * f
 one_more d f b e = ap (λ c. d * (when c 1 + f)) e ∙ mul-add d 1 f ∙ ap (λ t. t + d * f) (mul-one d)
@@ -70,12 +68,14 @@ one_more d f b e = ap (λ c. d * (when c 1 + f)) e ∙ mul-add d 1 f ∙ ap (λ 
 no_more : (d f : ℕ) (b : Bool) → b ≡ false → d * (when b 1 + f) ≡ d * f
 no_more d f b e = ap (λ c. d * (when c 1 + f)) e ∙ ap (◌*◌ d) (omega arith)
 
--- what the pushes so far have done
-pub record Pushing {W : Type 0} (o : Ops W) (n : ℕ) (ls : List Arc) (ks : List (Option Step)) (s : Step) (c : List Step) (d : ℕ) (m : Net) (x k : ℕ) : Type 0 where
-  pub walked : Walked n ls ks s c x k
+-- what the pushes so far have done, part of the way round the cycle c, where rest is to come
+pub record Pushing {W : Type 0} (o : Ops W) (n : ℕ) (ls : List Arc) (c rest : List Step) (d : ℕ) (m : Net) : Type 0 where
+  pub done : List Step
+  pub whole : onto rest done ≡ c
+  pub known : Known ls rest
   pub nodes : m.nodes ≡ n
   pub arcs : SameArcs ls m.arcs
-  pub shifted : Shifted (net o n ls) (flow_of ls) walked.done d (flow_in m)
+  pub shifted : Shifted (net o n ls) (flow_of ls) done d (flow_in m)
 
 module _ {W : Type 0} (G : Kind W) (n : ℕ) (ls : List Arc) (d : ℕ) where
   abbrev N : Graph W
@@ -132,10 +132,6 @@ module _ {W : Type 0} (G : Kind W) (n : ℕ) (ls : List Arc) (d : ℕ) where
   onto_apart [] p a = a
   onto_apart (t ∷ q) p a = (onto_apart q (t ∷ p) a).1
 
-  onto_allows : (q p : List Step) → Allows N (flow_of ls) (onto q p) d → Allows N (flow_of ls) p d
-  onto_allows [] p a = a
-  onto_allows (t ∷ q) p a = (onto_allows q (t ∷ p) a).1
-
   takes : SoundArcs n ls → (m : Net) (done : List Step) (t : Step) → SameArcs ls m.arcs → Shifted N (flow_of ls) done d (flow_in m) → arc t < length ls → Apart (starts N (t ∷ done)) → Allows N (flow_of ls) (t ∷ done) d → Takes m d t
   takes z m done (Forward j) s sh l apart allows =
       let a = fore_capacity N (flow_of ls) (Forward j ∷ done) d j apart allows (z j l).held in
@@ -157,81 +153,86 @@ module _ {W : Type 0} (G : Kind W) (n : ℕ) (ls : List Arc) (d : ℕ) where
   same_none : (m : Net) → ls ≡ m.arcs → SameArcs ls m.arcs
   same_none m e = subst (SameArcs ls) e (record { long = refl; each = λ i l. same_arc_refl (arc_at ls i) })
 
-  residual_small : SoundArcs n ls → (t : Step) → arc t < length ls → residual N (flow_of ls) t ≤ 1000
-  residual_small z (Forward j) l = let a = (z j l).small in omega arith
-  residual_small z (Backward j) l = let a = (z j l).small in let b = (z j l).held in omega arith
-
-  module _ (sound : SoundArcs n ls) (ks : List (Option Step)) (s : Step) (w : W) (z : Measured G.ops n ls ks s d w) where
+  module _ (sound : SoundArcs n ls) (ks : List (Option Step)) (s : Step) (w : W) (long : n ≤ length ks) (z : Measured G.ops n ls ks s d w) where
     -- the cycle
     abbrev c : List Step
-    c = onto z.closing.trail (s ∷ [])
+    c = onto (round ls ks s) []
+
+    c_is : c ≡ onto z.closing.trail (s ∷ [])
+    c_is = ap (λ p. onto p []) (round_is long z.closing)
 
     pub amount_small : d ≤ 1000
     amount_small =
-        let a = (onto_allows z.closing.trail (s ∷ []) z.most.allowed).0 in
-        let b = residual_small sound s z.closing.known in
+        let a = (onto_allows N (flow_of ls) d z.closing.trail (s ∷ []) z.most.allowed).0 in
+        let b = residual_small G.ops n ls sound s z.closing.known in
         omega arith
 
     pub rise_fits : d * G.ops.size w ≤ 4194304
     rise_fits = let b = mul-le-mul amount_small z.small in omega arith
 
-    pub first_takes : (m : Net) → ls ≡ m.arcs → Takes m d s
-    first_takes m e = takes sound m [] s (same_none m e) (shift_none m e) z.closing.known (onto_apart z.closing.trail (s ∷ []) z.closing.gainful.apart) (onto_allows z.closing.trail (s ∷ []) z.most.allowed)
-
-    pub pushing_first : (m m' : Net) → ls ≡ m.arcs → n ≡ m.nodes → m' ≡ taken m d s → (x : ℕ) → x ≡ tail_of ls s → Pushing G.ops n ls ks s c d m' x 0
-    pushing_first m m' e f is x at = subst₂ (λ y q. Pushing G.ops n ls ks s c d q y 0) (sym at) (sym is) (record {
-      walked = walked_first G n ls sound ks s z.closing.linked z.closing;
-      nodes = took_nodes m s ∙ sym f;
-      arcs = took_same m s z.closing.known (same_none m e);
-      shifted = took_shift m [] (shift_none m e) s (first_takes m e);
+    pub pushing_first : (p : List Step) → p ≡ round ls ks s → (m : Net) → record { nodes = n; arcs = ls } ≡ m → Pushing G.ops n ls c p d m
+    pushing_first p e m is = subst₂ (λ q k. Pushing G.ops n ls c q d k) (sym e) is (record {
+      done = [];
+      whole = refl;
+      known = round_known z.closing;
+      nodes = refl;
+      arcs = record { long = refl; each = λ i l. same_arc_refl (arc_at ls i) };
+      shifted = λ i h. refl;
     })
 
     -- one step more
-    module _ (m : Net) (x k : ℕ) (p : Pushing G.ops n ls ks s c d m x k) (goal : ℕ) (goal-is : goal ≡ head_of ls s) where
-      pub next_takes : (x ≡ goal → ⊥) → (t : Step) → link ks x ≡ Some t → Takes m d t
-      next_takes ne t e =
-          let q = walked_next n ls ks s c x k p.walked goal goal-is ne t e in
-          let done = p.walked.done in
-          takes sound m done t p.arcs p.shifted (z.closing.linked x t e).0 (onto_apart q.left (t ∷ done) (subst (λ y. Apart (starts N y)) (sym q.whole) z.closing.gainful.apart)) (onto_allows q.left (t ∷ done) (subst (λ y. Allows N (flow_of ls) y d) (sym q.whole) z.most.allowed))
+    module _ (p rest : List Step) (t : Step) (e : p ≡ t ∷ rest) (m : Net) (b : Pushing G.ops n ls c p d m) where
+      on : Pushing G.ops n ls c (t ∷ rest) d m
+      on = subst (λ q. Pushing G.ops n ls c q d m) e b
 
-      pub pushing_next : (x ≡ goal → ⊥) → (t : Step) → link ks x ≡ Some t → (m' : Net) → m' ≡ taken m d t → (x' : ℕ) → x' ≡ tail_of ls t → Pushing G.ops n ls ks s c d m' x' (k + 1)
-      pushing_next ne t e m' is x' at = subst₂ (λ y q. Pushing G.ops n ls ks s c d q y (k + 1)) (sym at) (sym is) (record {
-        walked = walked_on G n ls sound ks s z.closing.linked c x k t p.walked.done e (walked_next n ls ks s c x k p.walked goal goal-is ne t e);
-        nodes = took_nodes m t ∙ p.nodes;
-        arcs = took_same m t (z.closing.linked x t e).0 p.arcs;
-        shifted = took_shift m p.walked.done p.shifted t (next_takes ne t e);
+      pub next_takes : Takes m d t
+      next_takes =
+          let is = on.whole ∙ c_is in
+          takes sound m on.done t on.arcs on.shifted on.known.0 (onto_apart rest (t ∷ on.done) (subst (λ y. Apart (starts N y)) (sym is) z.closing.gainful.apart)) (onto_allows N (flow_of ls) d rest (t ∷ on.done) (subst (λ y. Allows N (flow_of ls) y d) (sym is) z.most.allowed))
+
+      pub pushing_next : (m' : Net) → m' ≡ taken m d t → Pushing G.ops n ls c rest d m'
+      pushing_next m' is = subst (λ k. Pushing G.ops n ls c rest d k) (sym is) (record {
+        done = t ∷ on.done;
+        whole = on.whole;
+        known = on.known.1;
+        nodes = took_nodes m t ∙ on.nodes;
+        arcs = took_same m t on.known.0 on.arcs;
+        shifted = took_shift m on.done on.shifted t next_takes;
       })
 
-      pub pushing_all : x ≡ goal → (before : Net) → ls ≡ before.arcs → n ≡ before.nodes → (r : W) → r ≡ G.ops.times d w → Improves G.ops before m r
-      pushing_all at before e f r is = subst (λ b. Improves G.ops b m r) same_net (record {
-        cycle = c;
-        gainful = z.closing.gainful;
-        amount = d;
-        allowed = z.most.allowed;
-        most = z.most.most;
-        nodes = p.nodes;
-        arcs = p.arcs;
-        shifted = shifted;
-        rises = less (value G.ops net₀) r ∙ ap (λ y. G.ops.plus y (G.ops.neg (value G.ops net₀))) (sym after);
-      })
-        where
-          net₀ : Net
-          net₀ = record { nodes = n; arcs = ls }
+    pub pushing_all : (p : List Step) → p ≡ [] → (m : Net) → Pushing G.ops n ls c p d m → (before : Net) → record { nodes = n; arcs = ls } ≡ before → (r : W) → r ≡ G.ops.times d w → Improves G.ops before m r
+    pushing_all p e m b before same_net r is = subst (λ k. Improves G.ops k m r) same_net (record {
+      cycle = round_cycle;
+      gainful = z.closing.gainful;
+      amount = d;
+      allowed = z.most.allowed;
+      most = z.most.most;
+      nodes = b.nodes;
+      arcs = b.arcs;
+      shifted = shifted;
+      rises = less (value G.ops net₀) r ∙ ap (λ y. G.ops.plus y (G.ops.neg (value G.ops net₀))) (sym after);
+    })
+      where
+        round_cycle : List Step
+        round_cycle = onto z.closing.trail (s ∷ [])
 
-          same_net : net₀ ≡ before
-          same_net = λ i. record { nodes = f i; arcs = e i }
+        net₀ : Net
+        net₀ = record { nodes = n; arcs = ls }
 
-          shifted : Shifted N (flow_of ls) c d (flow_in m)
-          shifted = subst (λ y. Shifted N (flow_of ls) y d (flow_in m)) (walked_all n ls ks s c x k p.walked goal goal-is at) p.shifted
+        done_is : b.done ≡ round_cycle
+        done_is = ap (λ q. onto q b.done) (sym e) ∙ b.whole ∙ c_is
 
-          graph_is : N ≡ graph G.ops m
-          graph_is = net_same G n ls m.arcs p.arcs ∙ ap (λ y. net G.ops y m.arcs) (sym p.nodes)
+        shifted : Shifted N (flow_of ls) round_cycle d (flow_in m)
+        shifted = subst (λ y. Shifted N (flow_of ls) y d (flow_in m)) done_is b.shifted
 
-          rise_is : G.ops.times d w ≡ times G.ops d (gain G.ops N c)
-          rise_is = G.laws.times_is d w ∙ ap (times G.ops d) z.gains
+        graph_is : N ≡ graph G.ops m
+        graph_is = net_same G n ls m.arcs b.arcs ∙ ap (λ y. net G.ops y m.arcs) (sym b.nodes)
 
-          after : value G.ops m ≡ G.ops.plus (value G.ops net₀) r
-          after = ap (λ g. worth G.ops g (flow_in m)) (sym graph_is) ∙ rise_holds G N (flow_of ls) (flow_in m) z.closing.gainful.node c d z.closing.gainful.closed shifted ∙ ap (G.ops.plus (value G.ops net₀)) (sym (is ∙ rise_is))
+        rise_is : G.ops.times d w ≡ times G.ops d (gain G.ops N round_cycle)
+        rise_is = G.laws.times_is d w ∙ ap (times G.ops d) z.gains
 
-          less : (a b : W) → b ≡ G.ops.plus (G.ops.plus a b) (G.ops.neg a)
-          less a b = sym (ap (λ y. G.ops.plus y (G.ops.neg a)) (G.laws.comm a b) ∙ G.laws.assoc b a (G.ops.neg a) ∙ ap (G.ops.plus b) (G.laws.inverse a) ∙ unit_right G b)
+        after : value G.ops m ≡ G.ops.plus (value G.ops net₀) r
+        after = ap (λ g. worth G.ops g (flow_in m)) (sym graph_is) ∙ rise_holds G N (flow_of ls) (flow_in m) z.closing.gainful.node round_cycle d z.closing.gainful.closed shifted ∙ ap (G.ops.plus (value G.ops net₀)) (sym (is ∙ rise_is))
+
+        less : (a k : W) → k ≡ G.ops.plus (G.ops.plus a k) (G.ops.neg a)
+        less a k = sym (ap (λ y. G.ops.plus y (G.ops.neg a)) (G.laws.comm a k) ∙ G.laws.assoc k a (G.ops.neg a) ∙ ap (G.ops.plus k) (G.laws.inverse a) ∙ unit_right G k)

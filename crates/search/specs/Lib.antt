@@ -1,5 +1,7 @@
 pub mod Outcomes
 pub mod Uses
 pub mod Links
+pub mod Ascents
 pub mod Sweeps
 pub mod Cycles
+pub mod Searches

@@ -1,6 +1,6 @@
 -- Steps over a table of arcs, and the links of a search: for each node the step by which its potential was raised last,
 -- or none. These words serve the contracts of the search's inner functions only.
-use Rattle.std.specs.Prelude.{◌≡◌, ℕ, ◌-◌, ◌<◌, Bool, false, ◌↔◌, List, [], ◌∷◌, length, Some, None, Option, ◌≢◌, slice_index_or}
+use Rattle.std.specs.Prelude.{◌≡◌, ℕ, zero, suc, ◌-◌, ◌<◌, Bool, false, cond, ◌==◌, ◌↔◌, List, [], ◌∷◌, length, Some, None, Option, ◌≢◌, slice_index_or}
 use Rattle.flow.specs.declared.arc.Arc.{Arc}
 use Rattle.flow.specs.declared.step.Step.{Step}
 use Rattle.flow.specs.Arcs.{arc_at, flow_of}
@@ -62,3 +62,13 @@ Trail ls ks x v (s ∷ q) = (x ≢ v) × (link ks x ≡ Some s) × Trail ls ks (
 abbrev pub onto : List Step → List Step → List Step
 onto [] p = p
 onto (s ∷ q) p = onto q (s ∷ p)
+
+-- the step after s on the way up: the link of the node that s starts from, or none where that node is the goal
+abbrev pub after : List Arc → List (Option Step) → ℕ → Step → Option Step
+after ls ks goal s = cond (tail_of ls s == goal) None (link ks (tail_of ls s))
+
+-- the steps from one on up to the goal or a root, k of them at most
+abbrev pub climb : List Arc → List (Option Step) → ℕ → Option Step → ℕ → List Step
+climb ls ks goal None k = []
+climb ls ks goal (Some s) zero = []
+climb ls ks goal (Some s) (suc k) = s ∷ climb ls ks goal (after ls ks goal s) k

@@ -1,6 +1,8 @@
 -- The search in place: potentials that only rise, and the forest of links by which they rose.
 -- These words serve the contracts of the search's inner functions only.
 use Rattle.std.specs.Prelude.{◌≡◌, ℕ, ◌+◌, ◌*◌, ◌<◌, ◌≤◌, Bool, true, false, List, [], ◌∷◌, length, Some, None, Option, slice_set}
+use Rattle.std.specs.declared.ops.ControlFlow.{ControlFlow}
+use Rattle.std.specs.declared.ops.ControlFlow.TheVariants.{Continue, Break}
 use Rattle.worth.specs.Kinds.{Ops}
 use Rattle.flow.specs.Groups.{Lt, Le}
 use Rattle.flow.specs.Graphs.{Fits}
@@ -10,10 +12,6 @@ use Rattle.flow.specs.declared.arc.Arc.{Arc}
 use Rattle.flow.specs.declared.step.Step.{Step}
 use Rattle.flow.specs.declared.step.Step.TheVariants.{Forward, Backward}
 use Rattle.network.specs.Potentials.{potential}
-use Rattle.search.specs.declared.sweep.Relaxation.{Relaxation}
-use Rattle.search.specs.declared.sweep.Relaxation.TheVariants as relax
-use Rattle.search.specs.declared.sweep.Sweep.{Sweep}
-use Rattle.search.specs.declared.sweep.Sweep.TheVariants as sweep
 use Rattle.search.specs.Links.{SoundArcs, tail_of, head_of, residual_of, link, Linked, Up, Trail, onto}
 
 -- a step's number in a sweep
@@ -30,6 +28,11 @@ module _ {W : Type 0} (G : Ops W) (n : ℕ) (ls : List Arc) where
   abbrev pub offer : List W → Step → W
   offer xs s = G.plus (potential G xs (tail_of ls s)) (step_worth G (net G n ls) s)
 
+  -- r is what a residual step s offers to its head, if that is more than there is
+  abbrev pub Offered : List W → Step → Option W → Type 0
+  Offered xs s None = 0 < residual_of ls s → Le G (offer xs s) (potential G xs (head_of ls s))
+  Offered xs s (Some x) = (0 < residual_of ls s) × (x ≡ offer xs s) × Lt G (potential G xs (head_of ls s)) x
+
   -- the link s of node v is a residual step to v that offers at least the potential of v
   pub record Joined (xs : List W) (v : ℕ) (s : Step) : Type 0 where
     pub ends : head_of ls s ≡ v
@@ -41,7 +44,7 @@ module _ {W : Type 0} (G : Ops W) (n : ℕ) (ls : List Arc) where
   pub record Forest (xs : List W) (ks : List (Option Step)) : Type 0 where
     pub sound : SoundArcs n ls
     pub potentials_long : length xs ≡ n
-    pub links_long : length ks ≡ n
+    pub links_long : n ≤ length ks
     pub rooted : (v : ℕ) → v < n → (q : List Step) × Up ls ks v q
     pub joined : (v : ℕ) (s : Step) → link ks v ≡ Some s → Joined xs v s
     pub low : (v : ℕ) → link ks v ≡ None → Le G (potential G xs v) G.none
@@ -55,11 +58,11 @@ module _ {W : Type 0} (G : Ops W) (n : ℕ) (ls : List Arc) where
     pub short : length trail < n
     pub gainful : Gainful G (net G n ls) (flow_of ls) (onto trail (s ∷ []))
 
-  -- what relaxing step s does to the potentials xs and the links ks
-  abbrev pub Relaxed : List W → List (Option Step) → List W → List (Option Step) → Step → Relaxation → Type 0
-  Relaxed xs ks xs' ks' s relax.Kept = (0 < residual_of ls s → Le G (offer xs s) (potential G xs (head_of ls s))) × (xs' ≡ xs) × (ks' ≡ ks)
-  Relaxed xs ks xs' ks' s relax.Raised = Lt G (potential G xs (head_of ls s)) (offer xs s) × (xs' ≡ slice_set xs (head_of ls s) (offer xs s)) × (ks' ≡ slice_set ks (head_of ls s) (Some s)) × Forest xs' ks'
-  Relaxed xs ks xs' ks' s relax.Closed = (ks' ≡ ks) × Closing ks s
+  -- what relaxing step s does to the potentials xs and the links ks: it keeps or raises them, or closes a cycle
+  abbrev pub Relaxed : List W → List (Option Step) → List W → List (Option Step) → Step → ControlFlow Step Bool → Type 0
+  Relaxed xs ks xs' ks' s (Continue false) = (0 < residual_of ls s → Le G (offer xs s) (potential G xs (head_of ls s))) × (xs' ≡ xs) × (ks' ≡ ks)
+  Relaxed xs ks xs' ks' s (Continue true) = Lt G (potential G xs (head_of ls s)) (offer xs s) × (xs' ≡ slice_set xs (head_of ls s) (offer xs s)) × (ks' ≡ slice_set ks (head_of ls s) (Some s)) × Forest xs' ks'
+  Relaxed xs ks xs' ks' s (Break t) = Closing ks' t
 
   -- the steps numbered below k were relaxed, from the potentials xs on
   pub record Swept (xs xs' : List W) (ks' : List (Option Step)) (moved : Bool) (k : ℕ) : Type 0 where
@@ -70,11 +73,11 @@ module _ {W : Type 0} (G : Ops W) (n : ℕ) (ls : List Arc) where
     pub same : moved ≡ false → xs' ≡ xs
     pub sizes : (b : ℕ) → Small G b xs → Small G (b + k) xs'
 
-  -- what a whole sweep does
-  abbrev pub Sweeps : List W → List W → List (Option Step) → Sweep → Type 0
-  Sweeps xs xs' ks' sweep.Still = (xs' ≡ xs) × Fits G (net G n ls) (potential G xs) (flow_of ls)
-  Sweeps xs xs' ks' sweep.Moved = Swept xs xs' ks' true (2 * length ls)
-  Sweeps xs xs' ks' (sweep.Closed s) = Closing ks' s
+  -- what a whole sweep does: it leaves potentials that fit, raises some, or closes a cycle
+  abbrev pub Sweeps : List W → List W → List (Option Step) → ControlFlow Step Bool → Type 0
+  Sweeps xs xs' ks' (Continue false) = (xs' ≡ xs) × Fits G (net G n ls) (potential G xs) (flow_of ls)
+  Sweeps xs xs' ks' (Continue true) = Swept xs xs' ks' true (2 * length ls)
+  Sweeps xs xs' ks' (Break s) = Closing ks' s
 
   -- what the search finds: potentials that fit, or a step that closes a cycle
   abbrev pub Found : List W → List (Option Step) → Option Step → Type 0

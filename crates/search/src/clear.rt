@@ -20,14 +20,8 @@ pub fn clear<N: Improvable>(net: &mut N, work: &mut [N::W]) -> Result<N::W, Refu
         return Err(Refusal::Short);
     }
     let mut sum = N::W::none();
-    loop {
-        match improve(net, work)? {
-            None => {
-                return Ok(sum);
-            }
-            Some(rise) => {
-                sum = sum.plus(rise);
-            }
-        }
+    while let Some(rise) = improve(net, work)? {
+        sum = sum.plus(rise);
     }
+    Ok(sum)
 }

@@ -1,34 +1,44 @@
-ghost use Rattle.std.specs.Prelude.{◌≤◌, length};
-ghost use Rattle.search.specs.Links.{SoundArcs};
-ghost use Rattle.search.specs.Sweeps.{Closing};
-ghost use Rattle.search.specs.Cycles.{Measured};
+// A cycle that a search has found, and what it allows and gains.
+ghost use Rattle.std.specs.Prelude.{◌≡◌, ◌<◌, length, Some};
+ghost use Rattle.flow.specs.Steps.{arc as arc_of};
+ghost use Rattle.search.specs.Links.{head_of, climb};
 
-use super::step::{gain, head, residual, tail};
-use flow::arc::Arc;
+use super::links::{Ascent, Links};
 use flow::step::Step;
 use worth::kind::Worth;
 
-// How much all steps of the cycle that `closing` closes can take, and what one unit along it gains.
-// The cycle is walked backward: from the closing step's tail up the links to its head, where the loop ends.
-pub(crate) fn measure<W: Worth>(arcs: &[Arc], links: &[Option<Step>], closing: Step) -> (u32, W)
-    requires sound { SoundArcs (length links.now) arcs.now }
-    requires closes { Closing W.ops (length links.now) arcs.now links.now closing }
-    requires fewer { length links.now ≤ 272 }
-    ensures { Measured W.ops (length links.now) arcs.now links.now closing result.0 result.1 }
-{
-    let mut x = tail(arcs, closing);
-    let mut amount = residual(arcs, closing);
-    let mut total = gain::<W>(arcs, closing);
-    for k in 0..links.len() {
-        if x == head(arcs, closing) {
-            break;
-        }
-        let Some(step) = links[x] else {
-            break;
-        };
-        amount = amount.min(residual(arcs, step));
-        total = gain::<W>(arcs, step).plus(total);
-        x = tail(arcs, step);
+// The step that closes it, and the links from that step's tail up to its head.
+#[derive(Clone, Copy)]
+pub(crate) struct Cycle<'a> {
+    pub(crate) links: Links<'a>,
+    pub(crate) closing: Step,
+    ghost known: { arc_of closing < length links.net.arcs.now },
+}
+
+impl<'a> Cycle<'a> {
+    ghost use Rattle.search.specs.Ascents.{steps_left};
+    ghost use Rattle.search.specs.Searches.{Closes, Measures};
+
+    // The steps, against their direction: the closing one first.
+    pub(crate) fn steps(self) -> Ascent<'a>
+        ensures { steps_left result ≡ climb self.entry.links.net.arcs.now self.entry.links.last.now (head_of self.entry.links.net.arcs.now self.entry.closing) (Some self.entry.closing) (length self.entry.links.last.now) }
+    {
+        let goal = self.links.net.head(self.closing);
+        self.links.ascent(Some(self.closing), goal)
     }
-    (amount, total)
+
+    // How much all its steps can take, and what one unit along it gains.
+    pub(crate) fn measure<W: Worth>(self) -> (u32, W)
+        requires { Closes W.ops self }
+        ensures { Measures W.ops self.entry result.0 result.1 }
+    {
+        let net = self.links.net;
+        let mut amount = u32::MAX;
+        let mut total = W::none();
+        for step in self.steps() {
+            amount = amount.min(net.room(step));
+            total = net.gain::<W>(step).plus(total);
+        }
+        (amount, total)
+    }
 }

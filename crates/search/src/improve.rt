@@ -1,13 +1,11 @@
 ghost use Rattle.std.specs.Prelude.{◌≡◌, length, Ok};
-ghost use Rattle.search.specs.Links.{Unlinked};
 ghost use Rattle.search.specs.Outcomes.{Improving};
 ghost use Rattle.search.specs.Uses.{Law};
 
-use super::cycle::measure;
+use super::residual::Residual;
 use super::shift::shift;
-use super::sweep::{blank, find_cycle};
+use super::sweep::{Search, blank};
 use flow::arc::Arc;
-use flow::step::Step;
 use network::improvable::Improvable;
 use network::readable::Network;
 use tables::refusal::Refusal;
@@ -18,58 +16,39 @@ fn read_arcs<N: Network>(net: &N, table: &mut [Arc])
     requires { length table.old ≡ length (N.Network.net net.now).arcs }
     ensures { table.new ≡ (N.Network.net net.now).arcs }
 {
-    for i in 0..table.len() {
+    for (i, slot) in table.iter_mut().enumerate() {
         if let Ok(arc) = net.arc(i as u32) {
-            table[i] = arc;
+            *slot = arc;
         }
     }
 }
 
-// Improves by one cycle, where the work table has just one entry for each node and the two tables of the search are lent.
-fn improve_within<N: Improvable>(
-    net: &mut N,
-    work: &mut [N::W],
-    table: &mut [Arc],
-    links: &mut [Option<Step>],
-) -> Option<N::W>
+// Improves by one cycle, where the work table and the table of arcs have just one entry for each node and each arc.
+fn improve_within<N: Improvable>(net: &mut N, work: &mut [N::W], table: &mut [Arc]) -> Option<N::W>
     requires worked { length work.old ≡ (N.Network.net net.old).nodes }
     requires tabled { length table.old ≡ length (N.Network.net net.old).arcs }
-    requires linked { length links.old ≡ (N.Network.net net.old).nodes }
-    requires unlinked { Unlinked links.old }
     ensures outcome { Improving N.W.Worth.ops (N.Network.net net.old) (N.Network.net net.new) work.old work.new (Ok result) }
     ensures kept { N.Improvable.alike net.old net.new }
 {
     read_arcs(net, table);
-    match find_cycle(table, work, links) {
-        None => None,
-        Some(closing) => {
-            let (amount, total) = measure::<N::W>(table, links, closing);
-            let rise = shift(net, table, links, closing, amount, total);
-            blank(work);
-            Some(rise)
-        }
-    }
+    let residual = Residual {
+        nodes: work.len(),
+        arcs: table,
+    };
+    let mut search = Search::new(residual, work);
+    let closing = search.find_cycle()?;
+    let cycle = search.cycle(closing);
+    let (amount, total) = cycle.measure::<N::W>();
+    let rise = shift(net, cycle, amount, total);
+    blank(work);
+    Some(rise)
 }
 
-// The tables of the search at their full size. They are made apart, so that what is proved of improve does not list their entries.
+// A table for the arcs, at its full size. It is made apart, so that what is proved of improve does not list its entries.
 fn no_arcs() -> [Arc; 448]
     ensures { length result ≡ 448 }
 {
-    [Arc {
-        from: 0,
-        to: 0,
-        capacity: 0,
-        flow: 0,
-        price: 0,
-        weeks: 0,
-    }; 448]
-}
-
-fn no_links() -> [Option<Step>; 272]
-    ensures long { length result ≡ 272 }
-    ensures unlinked { Unlinked result }
-{
-    [None; 272]
+    [Arc::default(); 448]
 }
 
 // Shifts along one cycle worth more than none as much as all its steps allow, if there is such a cycle; then the work
@@ -87,6 +66,5 @@ pub fn improve<N: Improvable>(net: &mut N, work: &mut [N::W]) -> Result<Option<N
         return Err(Refusal::Short);
     }
     let mut table = no_arcs();
-    let mut links = no_links();
-    Ok(improve_within(net, &mut work[0..n], &mut table[0..m], &mut links[0..n]))
+    Ok(improve_within(net, &mut work[..n], &mut table[..m]))
 }

@@ -3,9 +3,9 @@
 #![tactic(auto)]
 
 pub mod clear;
-mod climb;
 mod cycle;
 pub mod improve;
+mod links;
+mod residual;
 mod shift;
-mod step;
 mod sweep;

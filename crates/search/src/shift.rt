@@ -1,9 +1,9 @@
-ghost use Rattle.std.specs.Prelude.{◌≡◌, length};
-ghost use Rattle.search.specs.Cycles.{Measured, taken, Takes};
+ghost use Rattle.std.specs.Prelude.{◌≡◌};
+ghost use Rattle.search.specs.Cycles.{taken, Takes};
 ghost use Rattle.search.specs.Outcomes.{Improves};
+ghost use Rattle.search.specs.Searches.{net_of, Measures};
 
-use super::step::{head, tail};
-use flow::arc::Arc;
+use super::cycle::Cycle;
 use flow::step::Step;
 use network::improvable::Improvable;
 use network::readable::Network;
@@ -25,33 +25,15 @@ fn push_step<N: Improvable>(net: &mut N, step: Step, amount: u32)
     }
 }
 
-// Moves an amount along the cycle that `closing` closes, and answers what the worth rises by; one unit gains `total`.
-// The walk is that of `measure`.
-pub(crate) fn shift<N: Improvable>(
-    net: &mut N,
-    arcs: &[Arc],
-    links: &[Option<Step>],
-    closing: Step,
-    amount: u32,
-    total: N::W,
-) -> N::W
-    requires read { arcs.now ≡ (N.Network.net net.old).arcs }
-    requires sized { length links.now ≡ (N.Network.net net.old).nodes }
-    requires measured { Measured N.W.Worth.ops (length links.now) arcs.now links.now closing amount total }
+// Moves an amount along a cycle, and answers what the worth rises by; one unit gains `total`.
+pub(crate) fn shift<N: Improvable>(net: &mut N, cycle: Cycle, amount: u32, total: N::W) -> N::W
+    requires read { net_of cycle.links.net ≡ N.Network.net net.old }
+    requires measured { Measures N.W.Worth.ops cycle amount total }
     ensures rises { Improves N.W.Worth.ops (N.Network.net net.old) (N.Network.net net.new) result }
     ensures kept { N.Improvable.alike net.old net.new }
 {
-    let mut x = tail(arcs, closing);
-    push_step(net, closing, amount);
-    for k in 0..links.len() {
-        if x == head(arcs, closing) {
-            break;
-        }
-        let Some(step) = links[x] else {
-            break;
-        };
+    for step in cycle.steps() {
         push_step(net, step, amount);
-        x = tail(arcs, step);
     }
     total.times(amount)
 }

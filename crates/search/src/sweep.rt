@@ -1,135 +1,162 @@
 // The search for a cycle worth more than none: potentials are raised in place, step by step, until a step
 // closes a cycle or a whole sweep raises nothing; then the potentials fit.
-ghost use Rattle.std.specs.Prelude.{◌≡◌, ℕ, ◌*◌, ◌<◌, ◌≤◌, length, slice_index_or};
+ghost use Rattle.std.specs.Prelude.{◌≡◌, ℕ, ◌<◌, [], ◌∷◌, length, slice_index_or};
 ghost use Rattle.flow.specs.Steps.{arc as arc_of};
-ghost use Rattle.search.specs.Links.{SoundArcs, Unlinked};
-ghost use Rattle.search.specs.Sweeps.{Forest, Small, Relaxed, code, Sweeps, Found};
+ghost use Rattle.search.specs.Links.{Linked, Unlinked};
+ghost use Rattle.search.specs.Sweeps.{Closing, Offered, Relaxed, Sweeps, Found};
+ghost use Rattle.search.specs.Searches.{Begun, Growing, Closes};
 
-use super::climb::passes;
-use super::step::{gain, head, residual, tail};
-use flow::arc::Arc;
+use super::cycle::Cycle;
+use super::links::Links;
+use super::residual::Residual;
 use flow::step::Step;
+use std::ops::ControlFlow;
 use worth::kind::Worth;
 
-// What became of a step.
-#[derive(Clone, Copy)]
-enum Relaxation {
-    // it cannot be taken, or offers no more than there is
-    Kept,
-    // the potential at its head rose
-    Raised,
-    // it offers more to a node from which its own tail was reached: a cycle worth more than none
-    Closed,
+// A potential and a link for each node of a network.
+#[derive(Drop)]
+pub(crate) struct Search<'a, W> {
+    net: Residual<'a>,
+    potentials: &'a mut [W],
+    links: [Option<Step>; 272],
 }
 
-// Raises the potential at a step's head to what the step offers, if that is more and closes no cycle.
-fn relax<W: Worth>(
-    arcs: &[Arc],
-    potentials: &mut [W],
-    links: &mut [Option<Step>],
-    step: Step,
-) -> Relaxation
-    requires forest { Forest W.ops (length potentials.old) arcs.now potentials.old links.old }
-    requires small { Small W.ops 1000000 potentials.old }
-    requires known { arc_of step < length arcs.now }
-    ensures { Relaxed W.ops (length potentials.old) arcs.now potentials.old links.old potentials.new links.new step result }
-{
-    if residual(arcs, step) == 0 {
-        return Relaxation::Kept;
-    }
-    let from = tail(arcs, step);
-    let to = head(arcs, step);
-    let offered = potentials[from].plus(gain::<W>(arcs, step));
-    if !potentials[to].is_less(offered) {
-        return Relaxation::Kept;
-    }
-    if passes(arcs, links, from, to) {
-        return Relaxation::Closed;
-    }
-    potentials[to] = offered;
-    links[to] = Some(step);
-    Relaxation::Raised
-}
-
-// What a sweep over all steps came to.
-#[derive(Clone, Copy)]
-enum Sweep {
-    // no potential rose
-    Still,
-    // some potential rose
-    Moved,
-    // this step closes a cycle worth more than none
-    Closed(Step),
-}
-
-// The steps in the order in which a sweep takes them: forward and backward along each arc in turn.
-fn step_at(k: usize) -> Step
-    ensures { code result ≡ k }
-{
-    if k % 2 == 0 {
-        Step::Forward(k / 2)
-    } else {
-        Step::Backward(k / 2)
-    }
-}
-
-// Relaxes each step once.
-fn sweep_once<W: Worth>(arcs: &[Arc], potentials: &mut [W], links: &mut [Option<Step>]) -> Sweep
-    requires forest { Forest W.ops (length potentials.old) arcs.now potentials.old links.old }
-    requires small { Small W.ops 999000 potentials.old }
-    requires few { length arcs.now ≤ 448 }
-    ensures { Sweeps W.ops (length potentials.old) arcs.now potentials.old potentials.new links.new result }
-{
-    let mut moved = false;
-    for k in 0..2 * arcs.len() {
-        let step = step_at(k);
-        match relax(arcs, potentials, links, step) {
-            Relaxation::Kept => {}
-            Relaxation::Raised => {
-                moved = true;
-            }
-            Relaxation::Closed => {
-                return Sweep::Closed(step);
-            }
+impl<'a, W: Worth> Search<'a, W> {
+    // Nothing is raised yet.
+    pub(crate) fn new(net: Residual<'a>, potentials: &'a mut [W]) -> Search<'a, W>
+        requires { length potentials.old ≡ net.nodes }
+        ensures net { result.net ≡ net.entry }
+        ensures held { result.potentials.ghost_name ≡ potentials.entry.ghost_name }
+        ensures begun { Begun W.ops result }
+    {
+        blank(potentials);
+        Search {
+            net,
+            potentials,
+            links: no_links(),
         }
     }
-    if moved { Sweep::Moved } else { Sweep::Still }
+
+    // The links as they stand.
+    fn links(&self) -> Links<'_>
+        requires { Linked self.now.net.arcs.now self.now.links }
+        ensures net { result.net ≡ self.now.net }
+        ensures last { result.last.now ≡ self.now.links }
+    {
+        Links {
+            net: self.net,
+            last: &self.links,
+        }
+    }
+
+    // The cycle that a step closes.
+    pub(crate) fn cycle(&self, closing: Step) -> Cycle<'_>
+        requires { Closing W.ops self.now.net.nodes self.now.net.arcs.now self.now.links closing }
+        ensures net { result.links.net ≡ self.now.net }
+        ensures closes { Closes W.ops result }
+    {
+        Cycle {
+            links: self.links(),
+            closing,
+        }
+    }
+
+    // What a step offers to its head, if it can be taken and offers more than there is.
+    fn offer(&self, step: Step) -> Option<W>
+        requires growing { Growing W.ops 1000000 self.now }
+        requires known { arc_of step < length self.now.net.arcs.now }
+        ensures { Offered W.ops self.now.net.nodes self.now.net.arcs.now self.now.potentials.now step result }
+    {
+        let net = self.net;
+        if net.room(step) == 0 {
+            return None;
+        }
+        let offered = self.potentials[net.tail(step)].plus(net.gain::<W>(step));
+        if self.potentials[net.head(step)].is_less(offered) {
+            Some(offered)
+        } else {
+            None
+        }
+    }
+
+    // Raises the potential at a step's head to what the step offers, if that is more: whether it rose,
+    // or else the step, where it closes a cycle worth more than none.
+    fn relax(&mut self, step: Step) -> ControlFlow<Step, bool>
+        requires growing { Growing W.ops 1000000 self.old }
+        requires known { arc_of step < length self.old.net.arcs.now }
+        ensures net { self.new.net ≡ self.old.net }
+        ensures held { self.new.potentials.ghost_name ≡ self.old.potentials.ghost_name }
+        ensures relaxed { Relaxed W.ops self.old.net.nodes self.old.net.arcs.now self.old.potentials.now self.old.links self.new.potentials.now self.new.links step result }
+    {
+        let Some(offered) = self.offer(step) else {
+            return ControlFlow::Continue(false);
+        };
+        let from = self.net.tail(step);
+        let to = self.net.head(step);
+        if self.links().passes(from, to) {
+            return ControlFlow::Break(step);
+        }
+        self.potentials[to] = offered;
+        self.links[to] = Some(step);
+        ControlFlow::Continue(true)
+    }
+
+    // Relaxes each step once, forward and backward along each arc in turn: whether some potential rose,
+    // or else a step that closes a cycle worth more than none.
+    fn sweep(&mut self) -> ControlFlow<Step, bool>
+        requires { Growing W.ops 999000 self.old }
+        ensures net { self.new.net ≡ self.old.net }
+        ensures held { self.new.potentials.ghost_name ≡ self.old.potentials.ghost_name }
+        ensures sweeps { Sweeps W.ops self.old.net.nodes self.old.net.arcs.now self.old.potentials.now self.new.potentials.now self.new.links result }
+    {
+        let mut moved = false;
+        for i in 0..self.net.arcs.len() {
+            for step in both_ways(i) {
+                moved |= self.relax(step)?;
+            }
+        }
+        ControlFlow::Continue(moved)
+    }
+
+    // The step that closes a cycle worth more than none, or none: then the potentials fit.
+    // As many sweeps as there are nodes suffice, since a way up the links visits no node twice.
+    pub(crate) fn find_cycle(&mut self) -> Option<Step>
+        requires { Begun W.ops self.old }
+        ensures net { self.new.net ≡ self.old.net }
+        ensures held { self.new.potentials.ghost_name ≡ self.old.potentials.ghost_name }
+        ensures found { Found W.ops self.old.net.nodes self.old.net.arcs.now self.new.potentials.now self.new.links result }
+    {
+        for k in 0..self.net.nodes {
+            match self.sweep() {
+                ControlFlow::Continue(false) => return None,
+                ControlFlow::Continue(true) => {}
+                ControlFlow::Break(step) => return Some(step),
+            }
+        }
+        None
+    }
 }
 
-// All entries none.
+// The two steps along an arc.
+fn both_ways(i: usize) -> [Step; 2]
+    ensures { result ≡ Step.Forward i ∷ Step.Backward i ∷ [] }
+{
+    [Step::Forward(i), Step::Backward(i)]
+}
+
+// All entries none. The library's `fill` asks for a clone that cannot fail, which a kind of worth does not promise.
 pub(crate) fn blank<W: Worth>(work: &mut [W])
     ensures { (v : ℕ) → slice_index_or work.new v W.ops.none ≡ W.ops.none }
 {
-    for i in 0..work.len() {
-        work[i] = W::none();
+    for slot in work.iter_mut() {
+        *slot = W::none();
     }
 }
 
-// The step that closes a cycle worth more than none, or none: then the potentials fit.
-// As many sweeps as there are nodes suffice, since a way up the links visits no node twice.
-pub(crate) fn find_cycle<W: Worth>(
-    arcs: &[Arc],
-    potentials: &mut [W],
-    links: &mut [Option<Step>],
-) -> Option<Step>
-    requires sound { SoundArcs (length potentials.old) arcs.now }
-    requires alike { length links.old ≡ length potentials.old }
-    requires unlinked { Unlinked links.old }
-    requires few { length arcs.now ≤ 448 }
-    requires fewer { length potentials.old ≤ 272 }
-    ensures { Found W.ops (length potentials.old) arcs.now potentials.new links.new result }
+// No links, at the full size of a search. They are made apart, so that what is proved of a search does not list its entries.
+fn no_links() -> [Option<Step>; 272]
+    ensures long { length result ≡ 272 }
+    ensures unlinked { Unlinked result }
 {
-    blank(potentials);
-    for k in 0..potentials.len() {
-        match sweep_once(arcs, potentials, links) {
-            Sweep::Still => {
-                return None;
-            }
-            Sweep::Moved => {}
-            Sweep::Closed(step) => {
-                return Some(step);
-            }
-        }
-    }
-    None
+    [None; 272]
 }

@@ -1,7 +1,7 @@
 -- Steps relaxed one after another, and sweep after sweep.
-use Rattle.std.proofs.Common.{◌≡◌, ℕ, suc, ◌+◌, ◌*◌, ◌<◌, ◌≤◌, Bool, true, false, List, length, get_or, set, Some, None, Option, sym, refl, ap, ◌∙◌, subst, ap₂, subst₂, ⊎_elim, arith}
+use Rattle.std.proofs.Common.{get_or, ◌≡◌, ℕ, zero, suc, [], ◌∷◌, ◌+◌, ◌*◌, ◌<◌, ◌≤◌, Bool, true, false, ◌||◌, List, length, set, Some, None, Option, sym, refl, ap, ◌∙◌, subst, ap₂, subst₂, ⊎_elim, arith}
 use Rattle.std.proofs.lemmas.Bool.{cases_eq, false≢true, true≢false, cases_lt}
-use Rattle.std.proofs.lemmas.List.{get_or_read, get_or-set_same, get_or-set_other}
+use Rattle.std.proofs.lemmas.List.{get_or-set_same, get_or-set_other}
 use Rattle.flow.specs.Groups.{Kind, Lt, Le}
 use Rattle.flow.specs.Graphs.{Graph, Sound, Fits}
 use Rattle.flow.specs.Arcs.{net, flow_of}
@@ -12,10 +12,13 @@ use Rattle.flow.specs.declared.step.Step.TheVariants.{Forward, Backward}
 use Rattle.flow.proofs.Group.{le_trans, le_right, lt_le, le_lt_trans, le_eq, le_lt_absurd}
 use Rattle.flow.proofs.Reach.{reach, sweep_above, fits_from}
 use Rattle.network.specs.Potentials.{potential}
-use Rattle.search.specs.declared.sweep.Relaxation.TheVariants.{Kept, Raised}
+use Rattle.std.specs.declared.ops.ControlFlow.TheVariants.{Continue}
 use Rattle.search.specs.Links.{SoundArcs, tail_of, head_of, residual_of, Unlinked, Rooted, Told}
-use Rattle.search.specs.Sweeps.{code, Small, offer, Forest, Closing, Relaxed, Swept, Found}
-use Rattle.search.proofs.Forests.{tail_in, head_in, step_small, bare, forest_linked, forest_rooted, under, closes, grown}
+use Rattle.search.specs.Sweeps.{code, Small, offer, Offered, Forest, Closing, Relaxed, Swept, Sweeps, Found}
+use Rattle.search.specs.Searches.{Growing}
+use Rattle.search.specs.declared.sweep.Search.{Search}
+use Rattle.worth.specs.Kinds.{Ops}
+use Rattle.search.proofs.Forests.{tail_in, head_in, step_small, bare, forest_linked, forest_rooted, way_short, under, closes, grown}
 
 -- a step's number tells the step
 pub code_arc : (s : Step) (m : ℕ) → code s < 2 * m → arc s < m
@@ -26,75 +29,60 @@ arc_code : (s : Step) (m : ℕ) → arc s < m → code s < 2 * m
 arc_code (Forward i) m h = omega arith
 arc_code (Backward i) m h = omega arith
 
+-- the two steps along an arc
+pub both_code : (p : List Step) (i k : ℕ) (d : Step) → p ≡ Forward i ∷ Backward i ∷ [] → k < 2 → code (get_or p k d) ≡ 2 * i + k
+both_code p i zero d e h = rw e (omega arith)
+both_code p i (suc zero) d e h = rw e refl
+both_code p i (suc (suc k)) d e h = absurd (omega arith)
+
+pub both_arc : (p : List Step) (i k : ℕ) (d : Step) → p ≡ Forward i ∷ Backward i ∷ [] → k < 2 → arc (get_or p k d) ≡ i
+both_arc p i zero d e h = rw e refl
+both_arc p i (suc zero) d e h = rw e refl
+both_arc p i (suc (suc k)) d e h = absurd (omega arith)
+
 one_code : (s t : Step) → code s ≡ code t → s ≡ t
 one_code (Forward i) (Forward j) e = let f : i ≡ j = omega arith in ap Forward f
 one_code (Forward i) (Backward j) e = absurd (omega arith)
 one_code (Backward i) (Forward j) e = absurd (omega arith)
 one_code (Backward i) (Backward j) e = let f : i ≡ j = omega arith in ap Backward f
 
+or_false : (b : Bool) → b ≡ (b || false)
+or_false true = refl
+or_false false = refl
+
+or_true : (b : Bool) → true ≡ (b || true)
+or_true true = refl
+or_true false = refl
+
 module _ {W : Type 0} (G : Kind W) (n : ℕ) (ls : List Arc) where
   abbrev N : Graph W
   N = net G.ops n ls
 
-  -- what relax has read and reckoned where step s offers more: x and y are the potentials at its tail and head
-  pub record Offered (xs : List W) (s : Step) (left from to : ℕ) (x y w o : W) : Type 0 where
-    pub known : arc s < length ls
-    pub left_is : left ≡ residual_of ls s
-    pub some : left ≡ 0 → ⊥
-    pub from_is : from ≡ tail_of ls s
-    pub to_is : to ≡ head_of ls s
-    pub x_is : x ≡ get_or xs from x
-    pub y_is : y ≡ get_or xs to y
-    pub w_is : w ≡ step_worth G.ops N s
-    pub o_is : o ≡ G.ops.plus x w
-    pub more : true ≡ G.ops.less y o
+  module _ (xs : List W) (ks : List (Option Step)) (f : Forest G.ops n ls xs ks) (s : Step) (known : arc s < length ls) where
+    -- from its tail there is a way up
+    pub rooted : Rooted ls ks (tail_of ls s)
+    rooted = forest_rooted G n ls xs ks f (tail_of ls s) (tail_in G n ls f.sound s known)
 
-  pub offer_fits : (xs : List W) (s : Step) (from : ℕ) (x w : W) → SoundArcs n ls → arc s < length ls → Small G.ops 1000000 xs → length xs ≡ n → from ≡ tail_of ls s → x ≡ get_or xs from x → w ≡ step_worth G.ops N s → G.ops.size x + G.ops.size w ≤ 4194304
-  offer_fits xs s from x w sound known small e at read is =
-      let l = tail_in G n ls sound s known in
-      let p = ap G.ops.size (get_or_read xs from x (omega arith) read G.ops.none) in
-      omega (arith, small from, ap G.ops.size is, step_small G n ls sound s known)
+    module _ (o : W) (offered : Offered G.ops n ls xs s (Some o)) where
+      more : Lt G.ops (potential G.ops xs (head_of ls s)) (offer G.ops n ls xs s)
+      more = subst (Lt G.ops (potential G.ops xs (head_of ls s))) offered.1 offered.2
 
-  -- from a step's tail there is a way up
-  pub climbs : (xs : List W) (ks : List (Option Step)) → Forest G.ops n ls xs ks → (s : Step) → arc s < length ls → (from : ℕ) → from ≡ tail_of ls s → (from < length ks) × Rooted ls ks from
-  climbs xs ks f s known from at = subst (λ v. (v < length ks) × Rooted ls ks v) (sym at) (let l = tail_in G n ls f.sound s known in let k = f.links_long in omega arith, forest_rooted G n ls xs ks f (tail_of ls s) (tail_in G n ls f.sound s known))
+      -- whether its head is on its own way up, as the links' view tells it
+      module _ (ls' : List Arc) (ks' : List (Option Step)) (ls-is : ls' ≡ ls) (ks-is : ks' ≡ ks) (from to : ℕ) (from-is : from ≡ tail_of ls s) (to-is : to ≡ head_of ls s) (b : Bool) (told : Told ls' ks' from to b) where
+        told_here : Told ls ks (tail_of ls s) (head_of ls s) b
+        told_here = subst₂ (λ v x. Told ls ks v x b) from-is to-is (subst₂ (λ rs js. Told rs js from to b) ls-is ks-is told)
 
-  module _ (xs : List W) (ks : List (Option Step)) (f : Forest G.ops n ls xs ks) (s : Step) (left from to : ℕ) (x y w o : W) (r : Offered xs s left from to x y w o) where
-    goes : Open N (flow_of ls) s
-    goes = (r.known, let e = r.left_is in let d = r.some in omega arith)
+        pub closed : b ≡ true → Closing G.ops n ls ks s
+        closed e =
+            let q = rooted.0 in
+            let c = closes G n ls xs ks f s (known, offered.0) more q rooted.1 (λ fresh. true≢false (sym e ∙ (told_here q rooted.1).1 fresh)) in
+            record { linked = forest_linked G n ls xs ks f; known = known; trail = c.trail; climbs = c.climbs; short = let p = c.short in let l = way_short G n ls xs ks f (tail_of ls s) q (tail_in G n ls f.sound s known) rooted.1 in omega arith; gainful = c.gainful }
 
-    offer_is : o ≡ offer G.ops n ls xs s
-    offer_is =
-        let l = tail_in G n ls f.sound s r.known in
-        let e = r.from_is in
-        let k = f.potentials_long in
-        r.o_is ∙ ap₂ G.ops.plus (get_or_read xs from x (omega arith) r.x_is G.ops.none ∙ ap (potential G.ops xs) r.from_is) r.w_is
-
-    more : Lt G.ops (potential G.ops xs (head_of ls s)) (offer G.ops n ls xs s)
-    more =
-        let l = head_in G n ls f.sound s r.known in
-        let e = r.to_is in
-        let k = f.potentials_long in
-        subst₂ (Lt G.ops) (get_or_read xs to y (omega arith) r.y_is G.ops.none ∙ ap (potential G.ops xs) r.to_is) offer_is (sym r.more)
-
-    rooted : Rooted ls ks (tail_of ls s)
-    rooted = forest_rooted G n ls xs ks f (tail_of ls s) (tail_in G n ls f.sound s r.known)
-
-    told_at : (b b' : Bool) → b ≡ b' → Told ls ks from to b → Told ls ks (tail_of ls s) (head_of ls s) b'
-    told_at b b' e t = subst (λ v. Told ls ks v (head_of ls s) b') r.from_is (subst₂ (Told ls ks from) r.to_is e t)
-
-    -- its head is on its own way up
-    pub closed : (b : Bool) → Told ls ks from to b → b ≡ true → Closing G.ops n ls ks s
-    closed b told e =
-        let c = closes G n ls xs ks f s goes more rooted.0 rooted.1 (λ fresh. true≢false ((told_at b true e told rooted.0 rooted.1).1 fresh)) in
-        record { linked = forest_linked G n ls xs ks f; known = r.known; trail = c.trail; climbs = c.climbs; short = let p = c.short in let q = rooted.2 in let l = f.links_long in omega arith; gainful = c.gainful }
-
-    -- its head is not
-    pub raised : (b : Bool) → Told ls ks from to b → b ≡ false → Relaxed G.ops n ls xs ks (set xs to o) (set ks to (Some s)) s Raised
-    raised b told e =
-        let xs-is = ap₂ (set xs) r.to_is offer_is in
-        let ks-is = ap (λ v. set ks v (Some s)) r.to_is in
-        (more, xs-is, ks-is, subst₂ (Forest G.ops n ls) (sym xs-is) (sym ks-is) (grown G n ls xs ks f s goes more rooted.0 rooted.1 ((told_at b false e told rooted.0 rooted.1).0 refl)))
+        pub raised : b ≡ false → Relaxed G.ops n ls xs ks (set xs to o) (set ks to (Some s)) s (Continue true)
+        raised e =
+            let xs-set = ap₂ (set xs) to-is offered.1 in
+            let ks-set = ap (λ v. set ks v (Some s)) to-is in
+            (more, xs-set, ks-set, subst₂ (Forest G.ops n ls) (sym xs-set) (sym ks-set) (grown G n ls xs ks f s (known, offered.0) more rooted.0 rooted.1 ((told_here rooted.0 rooted.1).0 e)))
 
   -- a sweep, step by step
   pub swept_none : (xs : List W) (ks : List (Option Step)) → Forest G.ops n ls xs ks → Swept G.ops n ls xs xs ks false 0
@@ -105,8 +93,8 @@ module _ {W : Type 0} (G : Kind W) (n : ℕ) (ls : List Arc) where
     lifts : (s : Step) → Open N (flow_of ls) s → Le G.ops (offer G.ops n ls xs s) (offer G.ops n ls xs₁ s)
     lifts s p = le_right G (potential G.ops xs (tail_of ls s)) (potential G.ops xs₁ (tail_of ls s)) (step_worth G.ops N s) (w.up (tail_of ls s) (tail_in G n ls w.forest.sound s p.0))
 
-    pub swept_kept : Relaxed G.ops n ls xs₁ ks₁ xs₂ ks₂ s₀ Kept → (moved' : Bool) → moved' ≡ moved → Swept G.ops n ls xs xs₂ ks₂ moved' (k + 1)
-    swept_kept o moved' b = subst (λ t. Swept G.ops n ls xs xs₂ ks₂ t (k + 1)) (sym b) (subst₂ (λ ys js. Swept G.ops n ls xs ys js moved (k + 1)) (sym o.1) (sym o.2) (record { forest = w.forest; up = w.up; done = done; rose = w.rose; same = w.same; sizes = λ b h v. let q = w.sizes b h v in omega arith }))
+    kept : Relaxed G.ops n ls xs₁ ks₁ xs₂ ks₂ s₀ (Continue false) → Swept G.ops n ls xs xs₂ ks₂ moved (k + 1)
+    kept o = subst₂ (λ ys js. Swept G.ops n ls xs ys js moved (k + 1)) (sym o.1) (sym o.2) (record { forest = w.forest; up = w.up; done = done; rose = w.rose; same = w.same; sizes = λ b h v. let q = w.sizes b h v in omega arith })
       where
         here : (s : Step) → Open N (flow_of ls) s → code s ≡ k → Le G.ops (offer G.ops n ls xs s) (potential G.ops xs₁ (head_of ls s))
         here s p e =
@@ -116,7 +104,7 @@ module _ {W : Type 0} (G : Kind W) (n : ℕ) (ls : List Arc) where
         done : (s : Step) → Open N (flow_of ls) s → code s < k + 1 → Le G.ops (offer G.ops n ls xs s) (potential G.ops xs₁ (head_of ls s))
         done s p h = ⊎_elim (λ e. here s p e) (λ d. w.done s p (omega arith)) (cases_eq (code s) k)
 
-    raised_from : arc s₀ < length ls → Relaxed G.ops n ls xs₁ ks₁ xs₂ ks₂ s₀ Raised → Swept G.ops n ls xs xs₂ ks₂ true (k + 1)
+    raised_from : arc s₀ < length ls → Relaxed G.ops n ls xs₁ ks₁ xs₂ ks₂ s₀ (Continue true) → Swept G.ops n ls xs xs₂ ks₂ true (k + 1)
     raised_from known o = record { forest = o.3; up = λ x l. le_trans G (potential G.ops xs x) (potential G.ops xs₁ x) (potential G.ops xs₂ x) (w.up x l) (higher x); done = done; rose = λ e. (v, v_in, le_lt_trans G (potential G.ops xs v) (potential G.ops xs₁ v) (potential G.ops xs₂ v) (w.up v v_in) (subst (Lt G.ops (potential G.ops xs₁ v)) (sym at_v) o.0)); same = λ e. absurd (true≢false e); sizes = sizes }
       where
         v : ℕ
@@ -145,12 +133,14 @@ module _ {W : Type 0} (G : Kind W) (n : ℕ) (ls : List Arc) where
         done : (s : Step) → Open N (flow_of ls) s → code s < k + 1 → Le G.ops (offer G.ops n ls xs s) (potential G.ops xs₂ (head_of ls s))
         done s p h = ⊎_elim (λ e. here s p e) (λ d. le_trans G (offer G.ops n ls xs s) (potential G.ops xs₁ (head_of ls s)) (potential G.ops xs₂ (head_of ls s)) (w.done s p (omega arith)) (higher (head_of ls s))) (cases_eq (code s) k)
 
-    pub swept_raised : k < 2 * length ls → (m : ℕ) → m ≡ n → Relaxed G.ops m ls xs₁ ks₁ xs₂ ks₂ s₀ Raised → (moved' : Bool) → moved' ≡ true → Swept G.ops n ls xs xs₂ ks₂ moved' (k + 1)
-    swept_raised l m e o moved' b = subst₂ (λ j t. Relaxed G.ops j ls xs₁ ks₁ xs₂ ks₂ s₀ Raised → Swept G.ops n ls xs xs₂ ks₂ t (k + 1)) (sym e) (sym b) (raised_from (code_arc s₀ (length ls) (omega arith))) o
+    pub swept_relaxed : arc s₀ < length ls → (r : Bool) → Relaxed G.ops n ls xs₁ ks₁ xs₂ ks₂ s₀ (Continue r) → Swept G.ops n ls xs xs₂ ks₂ (moved || r) (k + 1)
+    swept_relaxed known false o = subst (λ b. Swept G.ops n ls xs xs₂ ks₂ b (k + 1)) (or_false moved) (kept o)
+    swept_relaxed known true o = subst (λ b. Swept G.ops n ls xs xs₂ ks₂ b (k + 1)) (or_true moved) (raised_from known o)
 
-  -- a sweep that raised nothing leaves potentials that fit
-  pub swept_fits : (xs xs' : List W) (ks' : List (Option Step)) (k : ℕ) → 2 * length ls ≤ k → (moved : Bool) → moved ≡ false → Swept G.ops n ls xs xs' ks' moved k → (xs' ≡ xs) × Fits G.ops N (potential G.ops xs) (flow_of ls)
-  swept_fits xs xs' ks' k all moved b w = (w.same b, fits_from G N (flow_of ls) (potential G.ops xs) (λ s p. subst (λ ys. Le G.ops (offer G.ops n ls xs s) (potential G.ops ys (head_of ls s))) (w.same b) (w.done s p (let h = arc_code s (length ls) p.0 in omega arith))))
+  -- a whole sweep
+  pub swept_all : (xs xs' : List W) (ks' : List (Option Step)) (moved : Bool) (k : ℕ) → k ≡ 2 * length ls → Swept G.ops n ls xs xs' ks' moved k → Sweeps G.ops n ls xs xs' ks' (Continue moved)
+  swept_all xs xs' ks' true k all w = subst (Swept G.ops n ls xs xs' ks' true) all w
+  swept_all xs xs' ks' false k all w = (w.same refl, fits_from G N (flow_of ls) (potential G.ops xs) (λ s p. subst (λ ys. Le G.ops (offer G.ops n ls xs s) (potential G.ops ys (head_of ls s))) (w.same refl) (w.done s p (let h = arc_code s (length ls) p.0 in omega arith))))
 
   -- after k sweeps that all raised something: the potentials are at least the greatest worths of walks of k steps,
   -- and there are fewer sweeps than nodes
@@ -160,7 +150,7 @@ module _ {W : Type 0} (G : Kind W) (n : ℕ) (ls : List Arc) where
     pub early : 0 < n → k < n
     pub sizes : Small G.ops (896 * k) xs
 
-  pub sweeping_none : (xs : List W) (ks : List (Option Step)) → SoundArcs n ls → length xs ≡ n → length ks ≡ n → ((v : ℕ) → potential G.ops xs v ≡ G.ops.none) → Unlinked ks → Sweeping xs ks 0
+  pub sweeping_none : (xs : List W) (ks : List (Option Step)) → SoundArcs n ls → length xs ≡ n → n ≤ length ks → ((v : ℕ) → potential G.ops xs v ≡ G.ops.none) → Unlinked ks → Sweeping xs ks 0
   sweeping_none xs ks z e f none unlinked = record {
     forest = bare G n ls xs ks z e f none unlinked;
     above = λ v l. le_eq G G.ops.none (potential G.ops xs v) (sym (none v));
@@ -168,7 +158,7 @@ module _ {W : Type 0} (G : Kind W) (n : ℕ) (ls : List Arc) where
     sizes = λ v. omega (arith, ap G.ops.size (none v), G.laws.size_none);
   }
 
-  moved_on : (xs xs' : List W) (ks ks' : List (Option Step)) (k : ℕ) → length ls ≤ 448 → Sweeping xs ks k → Swept G.ops n ls xs xs' ks' true (2 * length ls) → Sweeping xs' ks' (k + 1)
+  pub moved_on : (xs xs' : List W) (ks ks' : List (Option Step)) (k : ℕ) → length ls ≤ 448 → Sweeping xs ks k → Swept G.ops n ls xs xs' ks' true (2 * length ls) → Sweeping xs' ks' (k + 1)
   moved_on xs xs' ks ks' k few r w = record {
     forest = w.forest;
     above = λ v l. subst (λ j. Le G.ops (reach G N (flow_of ls) j v) (potential G.ops xs' v)) more (sweep_above G N (flow_of ls) sound k (potential G.ops xs) (potential G.ops xs') r.above w.up (λ s p. w.done s p (arc_code s (length ls) p.0)) v l);
@@ -188,12 +178,24 @@ module _ {W : Type 0} (G : Kind W) (n : ℕ) (ls : List Arc) where
           let v = z.0 in
           le_lt_absurd G (potential G.ops xs' v) (potential G.ops xs v) (le_trans G (potential G.ops xs' v) (reach G N (flow_of ls) k v) (potential G.ops xs v) (under G n ls xs' ks' w.forest k v (omega arith) z.1) (r.above v z.1)) z.2
 
-  pub sweeping_more : (xs xs' : List W) (ks ks' : List (Option Step)) (k : ℕ) → length ls ≤ 448 → Sweeping xs ks k → (m : ℕ) → m ≡ n → Swept G.ops m ls xs xs' ks' true (2 * length ls) → Sweeping xs' ks' (k + 1)
-  sweeping_more xs xs' ks ks' k few r m e w = moved_on xs xs' ks ks' k few r (subst (λ j. Swept G.ops j ls xs xs' ks' true (2 * length ls)) e w)
-
   pub found_still : (xs xs' : List W) (ks ks' : List (Option Step)) (k : ℕ) → k ≤ 272 → Sweeping xs ks k → (xs' ≡ xs) × Fits G.ops N (potential G.ops xs) (flow_of ls) → Found G.ops n ls xs' ks' None
   found_still xs xs' ks ks' k few r c = subst (λ ys. Found G.ops n ls ys ks' None) (sym c.0) (c.1, λ v. let z = r.sizes v in omega arith)
 
   -- as many sweeps as there are nodes come only where there is no node
   pub found_none : (xs : List W) (ks : List (Option Step)) (k : ℕ) → n ≤ k → k ≤ 272 → Sweeping xs ks k → Found G.ops n ls xs ks None
   found_none xs ks k h few r = ⊎_elim (λ p. absurd (let b = r.early p in omega arith)) (λ z. (λ i l. absurd (let b = (r.forest.sound i l).from_in in omega arith), λ v. let q = r.sizes v in omega arith)) (cases_lt 0 n)
+
+-- the search t has come from s by relaxing the steps numbered below k
+pub record SweptTo {W : Type 0} (o : Ops W) (s t : Search W) (moved : Bool) (k : ℕ) : Type 0 where
+  pub net : t.net ≡ s.net
+  pub held : t.potentials.ghost_name ≡ s.potentials.ghost_name
+  pub swept : Swept o s.net.nodes s.net.arcs.now s.potentials.now t.potentials.now t.links moved k
+
+module _ {W : Type 0} (G : Kind W) (s t : Search W) (moved : Bool) (k : ℕ) (w : SweptTo G.ops s t moved k) where
+  pub may_relax : Growing G.ops 999000 s → k ≤ 1000 → Growing G.ops 1000000 t
+  may_relax r h = record { forest = subst (λ n. Forest G.ops n.nodes n.arcs.now t.potentials.now t.links) (sym w.net) w.swept.forest; small = λ v. let z = w.swept.sizes 999000 r.small v in omega arith }
+
+  pub swept_on : (u : Search W) → u.net ≡ t.net → u.potentials.ghost_name ≡ t.potentials.ghost_name → (step : Step) → code step ≡ k → arc step < length s.net.arcs.now → (r : Bool) → Relaxed G.ops t.net.nodes t.net.arcs.now t.potentials.now t.links u.potentials.now u.links step (Continue r) → (k' : ℕ) → k' ≡ k + 1 → SweptTo G.ops s u (moved || r) k'
+  swept_on u net held step number known r o k' next =
+      let relaxed = subst (λ n. Relaxed G.ops n.nodes n.arcs.now t.potentials.now t.links u.potentials.now u.links step (Continue r)) w.net o in
+      record { net = net ∙ w.net; held = held ∙ w.held; swept = subst (Swept G.ops s.net.nodes s.net.arcs.now s.potentials.now u.potentials.now u.links (moved || r)) (sym next) (swept_relaxed G s.net.nodes s.net.arcs.now s.potentials.now t.potentials.now u.potentials.now t.links u.links moved k step number w.swept known r relaxed) }

@@ -1,0 +1,36 @@
+-- What is known of a search and of a cycle that it has found.
+use Rattle.std.specs.Prelude.{◌≡◌, ℕ, ◌≤◌, length}
+use Rattle.worth.specs.Kinds.{Ops}
+use Rattle.network.specs.Networks.{Net}
+use Rattle.network.specs.Potentials.{potential}
+use Rattle.search.specs.declared.residual.Residual.{Residual}
+use Rattle.search.specs.declared.cycle.Cycle.{Cycle}
+use Rattle.search.specs.declared.sweep.Search.{Search}
+use Rattle.search.specs.Links.{Unlinked}
+use Rattle.search.specs.Sweeps.{Small, Forest, Closing}
+use Rattle.search.specs.Cycles.{Measured}
+
+-- the network whose arcs were read
+abbrev pub net_of : Residual → Net
+net_of r = record { nodes = r.nodes; arcs = r.arcs.now }
+
+module _ {W : Type 0} (o : Ops W) where
+  -- nothing is raised yet
+  pub record Begun (s : Search W) : Type 0 where
+    pub potentials_long : length s.potentials.now ≡ s.net.nodes
+    pub none : (v : ℕ) → potential o s.potentials.now v ≡ o.none
+    pub unlinked : Unlinked s.links
+    pub links_long : s.net.nodes ≤ length s.links
+
+  -- the links are a forest, and no potential has a size above b
+  pub record Growing (b : ℕ) (s : Search W) : Type 0 where
+    pub forest : Forest o s.net.nodes s.net.arcs.now s.potentials.now s.links
+    pub small : Small o b s.potentials.now
+
+  -- the cycle is worth more than none
+  abbrev pub Closes : Cycle → Type 0
+  Closes c = Closing o c.links.net.nodes c.links.net.arcs.now c.links.last.now c.closing
+
+  -- it allows d, and one unit along it gains w
+  abbrev pub Measures : Cycle → ℕ → W → Type 0
+  Measures c d w = Measured o c.links.net.nodes c.links.net.arcs.now c.links.last.now c.closing d w

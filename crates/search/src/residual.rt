@@ -1,0 +1,64 @@
+// The residual network over a table of arcs: where a step leads, how much it can take, and what it is worth.
+ghost use Rattle.std.specs.Prelude.{◌≡◌, ◌<◌, length};
+ghost use Rattle.flow.specs.Arcs.{net};
+ghost use Rattle.flow.specs.Steps.{arc as arc_of, step_worth};
+ghost use Rattle.network.specs.Networks.{Sound};
+ghost use Rattle.search.specs.Links.{tail_of, head_of, residual_of};
+
+use flow::arc::Arc;
+use flow::step::Step;
+use worth::kind::Worth;
+
+// A network's arcs, read into a table.
+#[derive(Clone, Copy)]
+pub(crate) struct Residual<'a> {
+    pub(crate) nodes: usize,
+    pub(crate) arcs: &'a [Arc],
+    ghost sound: { Sound (record { nodes = nodes; arcs = arcs.now }) },
+}
+
+impl<'a> Residual<'a> {
+    // The node that a step starts from.
+    pub(crate) fn tail(self, step: Step) -> usize
+        requires { arc_of step < length self.arcs.now }
+        ensures { result ≡ tail_of self.entry.arcs.now step }
+    {
+        match step {
+            Step::Forward(i) => self.arcs[i].from as usize,
+            Step::Backward(i) => self.arcs[i].to as usize,
+        }
+    }
+
+    // The node that a step leads to.
+    pub(crate) fn head(self, step: Step) -> usize
+        requires { arc_of step < length self.arcs.now }
+        ensures { result ≡ head_of self.entry.arcs.now step }
+    {
+        match step {
+            Step::Forward(i) => self.arcs[i].to as usize,
+            Step::Backward(i) => self.arcs[i].from as usize,
+        }
+    }
+
+    // How much a step can take.
+    pub(crate) fn room(self, step: Step) -> u32
+        requires { arc_of step < length self.arcs.now }
+        ensures { result ≡ residual_of self.entry.arcs.now step }
+    {
+        match step {
+            Step::Forward(i) => self.arcs[i].capacity - self.arcs[i].flow,
+            Step::Backward(i) => self.arcs[i].flow,
+        }
+    }
+
+    // What one unit along a step is worth.
+    pub(crate) fn gain<W: Worth>(self, step: Step) -> W
+        requires { arc_of step < length self.arcs.now }
+        ensures { result ≡ step_worth W.ops (net W.ops self.entry.nodes self.entry.arcs.now) step }
+    {
+        match step {
+            Step::Forward(i) => W::unit(self.arcs[i].price, self.arcs[i].weeks),
+            Step::Backward(i) => W::unit(self.arcs[i].price, self.arcs[i].weeks).negated(),
+        }
+    }
+}

@@ -7,7 +7,6 @@ use Rattle.std.specs.List.{AllByRecursion}
 use Rattle.std.proofs.lemmas.List.{length-map, length-drop, length-take-le, get_or-take, get_or-drop}
 use Rattle.std.proofs.ByRecursion.{All-get_or}
 use Rattle.std.proofs.lemmas.Bool.{and_parts, eqb-true, eq-eqb, ne_eqb, cond-true, cond-false}
-use Rattle.tables.proofs.Entries.{length_entries}
 use Rattle.flow.specs.declared.arc.Arc.{Arc}
 use Rattle.flow.specs.Arcs.{blank, flow_of}
 use Rattle.book.specs.Rows.{sum_with}
@@ -27,6 +26,7 @@ use Rattle.book.specs.declared.side.Side.{Side}
 use Rattle.book.specs.declared.side.Side.TheVariants.{Give, Get}
 use Rattle.round.proofs.Rows.{rows_le, gives_length, gets_length, count_rows, offer_at as entry_offer}
 use Rattle.round.proofs.Drawn.{rows_at}
+use Rattle.round.proofs.Sounds.{few_lines}
 use Rattle.round.specs.Carrying.{sound_closed}
 
 before_is : (n : ℕ) (es : List Entry) (ls : List Line) (k : ℕ) (d : Entry) → in_rows n es (length ls) ≡ true → k < length es → n + arcs_before (map (offer_of ls) es) k ≡ (get_or es k d).first + k
@@ -100,7 +100,7 @@ module _ {W : Type 0} (x : ClosedRound W) where
         flows t l = ap (λ xs. flow_of xs t) ea ∙ part_flow x.arcs first count t l
 
         few : length ls ≤ 256
-        few = omega (arith, many, sides_within s e x.round.lines en.within, long, length_entries x.round.lines)
+        few = omega (arith, many, sides_within s e x.round.lines en.within, long, few_lines x.round)
 
         price : (t : ℕ) (d : Line) → t < length ls → (get_or ls t d).price ≤ 1000000
         price t d l =

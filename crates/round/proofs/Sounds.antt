@@ -1,7 +1,9 @@
 -- Each call on an open round leaves its book sound.
 use Rattle.std.proofs.Common.{◌≡◌, ℕ, zero, suc, ◌+◌, ◌<◌, ◌≤◌, List, [], ◌∷◌, ◌++◌, map, length, get_or, set, Some, None, Ok, Err, Option, Result, sym, refl, ap, ◌∙◌, subst, inl, inr, arith}
+use native.Mathlib.Bridge.{le_prop}
+use mathlib.Core.Logic.{∥∥₁_elim}
 use Rattle.std.specs.List.{ContainsAt as Has, AllByRecursion}
-use Rattle.std.proofs.lemmas.List.{map_push, length-set, get_or_append_left, get_or_push, length_push, get_or_default}
+use Rattle.std.proofs.lemmas.List.{length-map, map_push, length-set, get_or_append_left, get_or_push, length_push, get_or_default}
 use Rattle.std.proofs.ByRecursion.{All-get_or, All-from_get_or, All-weaker, All-push, All-set}
 use Rattle.std.proofs.lemmas.Bool.{cases_lt, cases_Bool, both_ways}
 use Rattle.tables.specs.Refusals.{First}
@@ -17,6 +19,9 @@ use Rattle.round.specs.Holdings.{put_at, Holds}
 use Rattle.terms.specs.Lines.{Out}
 use Rattle.round.specs.Offering.{offering, TakesOffer, withdrawn, Withdraws}
 use Rattle.terms.proofs.Spots.{spot_some, spot_none}
+use Rattle.round.specs.Kept.{offer_of}
+use Rattle.round.specs.declared.open_round.OpenRound.{OpenRound}
+use Rattle.round.proofs.Rows.{count_rows}
 
 pub sound_fresh : Sound fresh
 sound_fresh = record {
@@ -266,3 +271,13 @@ sound_withdraw b b' n (Ok u) t k =
       offers_few = omega (arith, k.offers_few, length-set b.offers n (withdrawn o));
       lines_few = omega (arith, k.lines_few, count_set b.offers n);
     })
+
+-- the tables of a round have the sizes of its book
+pub few_holdings : (r : OpenRound) → length r.holdings ≤ 128
+few_holdings r = ∥∥₁_elim r.sound le_prop (λ s. s.holdings_few)
+
+pub few_offers : (r : OpenRound) → length r.offers ≤ 64
+few_offers r = omega (arith, ∥∥₁_elim r.sound le_prop (λ s. s.offers_few), length-map r.offers (offer_of r.lines))
+
+pub few_lines : (r : OpenRound) → length r.lines ≤ 256
+few_lines r = omega (arith, ∥∥₁_elim r.sound le_prop (λ s. s.lines_few), count_rows 0 r.offers r.lines r.rows)

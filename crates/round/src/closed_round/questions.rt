@@ -7,9 +7,9 @@ ghost use Rattle.round.specs.Holdings.{AnswersHolding};
 ghost use Rattle.round.specs.Questions.{weeks_on, Moderate, Sided, AnswersUnits, AnswersPayoff};
 ghost use Rattle.round.specs.Uses.{Law};
 
-use book::side::Side;
 use super::ClosedRound;
 use book::line::Line;
+use book::side::Side;
 use flow::arc::Arc;
 use network::valuation::worth;
 use tables::refusal::Refusal;

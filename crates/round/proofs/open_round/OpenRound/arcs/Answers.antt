@@ -1,11 +1,10 @@
 use Rattle.std.proofs.Common.{◌≡◌, ◌+◌, true, List, ◌++◌, map, length, sym, ap, ◌∙◌, subst, arith}
-use Rattle.std.proofs.lemmas.List.{append-nil, length-map, take_all}
-use Rattle.tables.proofs.Entries.{length_entries}
+use Rattle.std.proofs.lemmas.List.{append-nil, take_all}
 use Rattle.book.specs.Arcs.{holding_arcs, offers_arcs, no_flows}
-use Rattle.terms.specs.Names.{letters}
 use Rattle.round.specs.Kept.{offer_of, in_rows}
 use Rattle.round.specs.Rounds.{book}
 use Rattle.round.specs.declared.entry.Entry.{Entry}
+use Rattle.round.proofs.Sounds.{few_holdings, few_offers, few_lines}
 use Rattle.round.proofs.Drawn.{rows_at, front_room, front_more}
 use Rattle.round.proofs.open_round.OpenRound.arcs.Goals as goal
 
@@ -22,19 +21,18 @@ add_offer-requires c =
     let ls = r.lines in
     let rows : in_rows 0 es (length ls) ≡ true = subst (λ (xs : List Entry). in_rows 0 xs (length ls) ≡ true) (sym c.as_slice-offers.ensures) r.rows in
     let lt = c.loop-k-test.true in
-    let few = length_entries r.offers in
+    let few = few_offers r in
     let same = ap length c.as_slice-offers.ensures in
     record {
       small = omega arith;
       within = (rows_at 0 es ls c.loop-k.k _ rows lt).1;
-      room = front_room (length (book r).items) (book r).holdings ls es c.loop-k.k _ c.loop-k.arcs c.loop-k.invariant lt (omega (arith, length_entries r.holdings)) (omega (arith, length_entries r.lines)) (omega arith) rows;
+      room = front_room (length (book r).items) (book r).holdings ls es c.loop-k.k _ c.loop-k.arcs c.loop-k.invariant lt (omega (arith, few_holdings r)) (omega (arith, few_lines r)) (omega arith) rows;
     }
 
 pub loop-k-preserved : goal.loop-k-preserved
 loop-k-preserved c =
     let r = c.args.self.now in
     let es = c.as_slice-offers.result.now in
-    let items = length-map r.items letters in
     front_more (length (book r).items) (book r).holdings r.lines es c.loop-k.k _ c.loop-k.arcs c.loop-k.invariant c.loop-k-test.true c.add_offer.new.arcs _ (omega arith) c.add_offer.ensures
 
 pub returns : goal.returns

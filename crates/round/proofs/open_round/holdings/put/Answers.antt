@@ -7,4 +7,4 @@ pub returns-else-h-gt1000 : goal.returns-else-h-gt1000
 returns-else-h-gt1000 c =
     let h = c.args.h in
     put_there c.args.holdings.now c.set.new.self h c.in-Some.k c.set.result
-    (c.in-Some.ensures ∙ ap (λ hs. spot_of hs h.member h.item) c.as_slice.ensures) c.if-h-gt1000.false c.set.ensures.outcome
+    (c.in-Some.ensures ∙ ap (λ hs. spot_of hs h.member h.item) c.as_slice.ensures) c.if-h-gt1000.false c.set.ensures

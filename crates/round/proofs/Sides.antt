@@ -77,30 +77,24 @@ module _ {W : Type 0} (x : ClosedRound W) where
   small_flow : (i : ℕ) → i < length x.arcs → flow_of x.arcs i ≤ 1000
   small_flow i l = let s = (sound_closed x).each i l in omega (arith, s.held, s.small)
 
-  module _ (k : ℕ) (e : Entry) (en : Entered (closed_book x) x.round.lines k e) (s : Side) (first count : ℕ) where
+  module _ (k : ℕ) (e : Entry) (en : Entered (closed_book x) x.round.lines k e) (s : Side) (first : ℕ) where
     -- the lines of a side and a part of the arcs go together, where the side's arcs begin at the first
-    pub sided : (ls : List Line) (arcs : List Arc) → ls ≡ lines_on s (offer_of x.round.lines e) → length (lines_on s (offer_of x.round.lines e)) ≡ count → ((t : ℕ) → units_on s (closed_allotment x k) t ≡ flow_of x.arcs (first + t)) → first + count ≤ length x.arcs → arcs ≡ take count (drop first x.arcs) → Sided (closed_book x) (closed_allotment x) k s ls arcs
-    sided ls arcs el long at inside ea = record {
+    pub sided : (ls : List Line) (arcs : List Arc) → ls ≡ lines_on s (offer_of x.round.lines e) → arcs ≡ take (length ls) (drop first x.arcs) → ((t : ℕ) → units_on s (closed_allotment x k) t ≡ flow_of x.arcs (first + t)) → first + length ls ≤ length x.arcs → Sided (closed_book x) (closed_allotment x) k s ls arcs
+    sided ls arcs el ea at inside = record {
       known = en.known;
       lines = lines;
-      units = λ t l. flows t (omega (arith, many)) ∙ sym (at t);
-      moderate = record { long = as_many; few = few; small = λ t d l. (price t d l, subst (λ n. n ≤ 1000) (sym (flows t (omega (arith, many)))) (small_flow (first + t) (omega (arith, many)))) };
+      units = λ t l. flows t l ∙ sym (at t);
+      moderate = record { long = ap length ea ∙ part_length x.arcs first (length ls) inside; few = few; small = λ t d l. (price t d l, subst (λ n. n ≤ 1000) (sym (flows t l)) (small_flow (first + t) (omega arith))) };
     }
       where
         lines : ls ≡ lines_on s (offer_at (closed_book x) k)
         lines = el ∙ ap (lines_on s) (sym en.is)
 
-        many : length ls ≡ count
-        many = ap length el ∙ long
-
-        as_many : length arcs ≡ length ls
-        as_many = ap length ea ∙ part_length x.arcs first count inside ∙ sym many
-
-        flows : (t : ℕ) → t < count → flow_of arcs t ≡ flow_of x.arcs (first + t)
-        flows t l = ap (λ xs. flow_of xs t) ea ∙ part_flow x.arcs first count t l
+        flows : (t : ℕ) → t < length ls → flow_of arcs t ≡ flow_of x.arcs (first + t)
+        flows t l = ap (λ xs. flow_of xs t) ea ∙ part_flow x.arcs first (length ls) t l
 
         few : length ls ≤ 256
-        few = omega (arith, many, sides_within s e x.round.lines en.within, long, few_lines x.round)
+        few = omega (arith, ap length el, sides_within s e x.round.lines en.within, few_lines x.round)
 
         price : (t : ℕ) (d : Line) → t < length ls → (get_or ls t d).price ≤ 1000000
         price t d l =

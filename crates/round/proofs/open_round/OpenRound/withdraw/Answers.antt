@@ -1,5 +1,6 @@
-use Rattle.std.proofs.Common.{length, ap, ◌∙◌}
+use Rattle.std.proofs.Common.{length, ap, ◌∙◌, subst}
 use mathlib.Core.Logic.{∥∥₁_map}
+use Rattle.tables.specs.Tables.{Found}
 use Rattle.tables.proofs.Entries.{replaced}
 use Rattle.round.specs.Kept.{in_rows}
 use Rattle.round.specs.Rounds.{book}
@@ -9,14 +10,14 @@ use Rattle.round.proofs.Calls.{withdrawn_already, entry_stopped}
 use Rattle.round.proofs.Standing.{round_law}
 use Rattle.round.proofs.open_round.OpenRound.withdraw.Goals as goal
 
-pub returns-in_default-clause-law : goal.returns-in_default-clause-law
-returns-in_default-clause-law c = round_law
+pub returns-in_err-entry-clause-law : goal.returns-in_err-entry-clause-law
+returns-in_err-entry-clause-law c = round_law
 
 pub returns-then-entry-eq0 : goal.returns-then-entry-eq0
 returns-then-entry-eq0 c =
     let r = c.args.self.now in
-    let found = c.in-Some.ensures in
-    record { outcome = withdrawn_already (book r) r.lines r.offers c.args.offer c.in-Some.entry found.0 found.1 c.if-entry-eq0.true; law = round_law }
+    let found = subst (Found r.offers c.args.offer) c.in_ok-entry.ensures.ok_part c.get.ensures in
+    record { outcome = withdrawn_already (book r) r.lines r.offers c.args.offer c.in_ok-entry.entry found.0 found.1 c.if-entry-eq0.true; law = round_law }
 
 pub invariant_of-self : goal.invariant_of-self
 invariant_of-self c =
@@ -24,8 +25,8 @@ invariant_of-self c =
     let es = r.offers in
     let ls = r.lines in
     let k = c.args.offer in
-    let e = c.in-Some.entry in
-    let found = c.in-Some.ensures in
+    let e = c.in_ok-entry.entry in
+    let found = subst (Found es k) c.in_ok-entry.ensures.ok_part c.get.ensures in
     let done = entry_stopped (book r) ls es k e found.0 found.1 c.set.new.self c.set.result c.if-entry-eq0.false c.set.ensures in record {
       sound = ∥∥₁_map r.sound (sound_withdraw (book r) _ k c.set.result done);
       rows = ap (λ xs. in_rows 0 xs (length ls)) (replaced es c.set.new.self k (stopped e) c.set.result c.set.ensures found.0)
@@ -35,5 +36,5 @@ invariant_of-self c =
 pub returns : goal.returns
 returns c =
     let r = c.args.self.now in
-    let found = c.in-Some.ensures in
-    record { outcome = entry_stopped (book r) r.lines r.offers c.args.offer c.in-Some.entry found.0 found.1 c.set.new.self c.set.result c.if-entry-eq0.false c.set.ensures; law = round_law }
+    let found = subst (Found r.offers c.args.offer) c.in_ok-entry.ensures.ok_part c.get.ensures in
+    record { outcome = entry_stopped (book r) r.lines r.offers c.args.offer c.in_ok-entry.entry found.0 found.1 c.set.new.self c.set.result c.if-entry-eq0.false c.set.ensures; law = round_law }

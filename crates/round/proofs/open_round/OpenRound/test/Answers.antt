@@ -1,7 +1,7 @@
 use Rattle.std.proofs.Common.{refl}
 use Rattle.std.proofs.lemmas.Bool.Decides.{not_from_Decides}
 use Rattle.tables.proofs.Firsts.{here, next}
-use Rattle.round.proofs.open_round.OpenRound.fault.Goals as goal
+use Rattle.round.proofs.open_round.OpenRound.test.Goals as goal
 
 pub returns-then-lacks : goal.returns-then-lacks
 returns-then-lacks c = here (c.lacks.ensures.0 c.if-lacks.true)

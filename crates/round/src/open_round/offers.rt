@@ -1,4 +1,4 @@
-ghost use Rattle.std.specs.Prelude.{◌≡◌, ◌⊎◌, map, length, Decides};
+ghost use Rattle.std.specs.Prelude.{◌≡◌, ◌<◌, ◌⊎◌, map, length, Decides};
 ghost use Rattle.tables.specs.Refusals.{First, refusal};
 ghost use Rattle.book.specs.Books.{Twice, item_of};
 ghost use Rattle.terms.specs.Lines.{EitherSide, Out};
@@ -21,6 +21,12 @@ impl OfferView<'_> {
         ensures { Decides result (Out self.now.limit ⊎ EitherSide (λ l. Out l.limit) self.now.give.now self.now.get.now) }
     {
         is_out(self.limit) || either_side(&OutOfBounds, self.give, self.get)
+    }
+
+    fn is_overpriced(&self) -> bool
+        ensures { Decides result (EitherSide (λ l. 1000000 < l.price) self.now.give.now self.now.get.now) }
+    {
+        either_side(&Overpriced, self.give, self.get)
     }
 
     fn has_double(&self) -> bool
@@ -67,7 +73,7 @@ impl OpenRound {
         if offer.has_limit_out() {
             return Err(Refusal::Bounds);
         }
-        if either_side(&Overpriced, offer.give, offer.get) {
+        if offer.is_overpriced() {
             return Err(Refusal::Price);
         }
         if offer.has_double() {
@@ -100,6 +106,7 @@ impl OpenRound {
             get,
         };
         self.test(&offer)?;
+        // there is room for all of it
         let n = self.offers.len();
         let first = self.lines.len();
         let _ = self.lines.extend(give);

@@ -4,7 +4,7 @@ use Rattle.std.proofs.lemmas.Int.{to_z-of_z}
 use Rattle.network.specs.Pushes.{ArcsPushed}
 use Rattle.book.specs.Arcs.{nodes}
 use Rattle.round.specs.Rounds.{book}
-use Rattle.round.specs.Carrying.{same_pushed, carries_pushed}
+use Rattle.round.proofs.Pushed.{same_pushed, carries_pushed}
 use Rattle.round.proofs.closed_round.as_network.ClosedRoundImprovable.push.Goals as goal
 
 pub invariant_of-self : goal.invariant_of-self

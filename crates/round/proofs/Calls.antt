@@ -78,11 +78,9 @@ module _ (b : Book) (es es' : List Entry) (ls ls1 ls2 give get : List Line) (m l
   e3 : es' ≡ es ++ entry m l k give get ∷ []
   e3 = grew 64 es es' (entry m l k give get ∷ []) r3 a3 (omega (arith, fits.0))
 
-  pub offer_rows : in_rows 0 es' (length ls2) ≡ true
-  offer_rows = grown_rows es es' ls ls1 ls2 give get m l k h ek e1 e2 e3
-
-  pub offer_taken : (n : ℕ) → n ≡ length es → TakesOffer (with_offers b (map (offer_of ls) es)) (with_offers b (map (offer_of ls2) es')) (made m l give get) (Ok n)
-  offer_taken n en = record {
-    refused = f;
-    outcome = (en ∙ sym (length-map es (offer_of ls)), ap (with_offers b) (grown_offers es es' ls ls1 ls2 give get m l k h ek e1 e2 e3));
-  }
+  -- the lines still stand one behind the other, and the offer comes to the end
+  pub offer_taken : (n : ℕ) → n ≡ length es → (in_rows 0 es' (length ls2) ≡ true) × TakesOffer (with_offers b (map (offer_of ls) es)) (with_offers b (map (offer_of ls2) es')) (made m l give get) (Ok n)
+  offer_taken n en = (
+    grown_rows es es' ls ls1 ls2 give get m l k h ek e1 e2 e3,
+    record { refused = f; outcome = (en ∙ sym (length-map es (offer_of ls)), ap (with_offers b) (grown_offers es es' ls ls1 ls2 give get m l k h ek e1 e2 e3)) },
+  )

@@ -1,14 +1,14 @@
 -- The arcs of a book, drawn one after the other.
-use Rattle.std.proofs.Common.{◌≡◌, ℕ, zero, suc, ◌+◌, ◌*◌, ◌<◌, ◌≤◌, true, eqb, List, [], ◌∷◌, ◌++◌, map, length, get_or, take, pos, Result, sym, refl, ap, ◌∙◌, ap₂, append_assoc, arith}
-use Rattle.std.proofs.lemmas.List.{append-nil, length-append, length-map, length_push, length-take-le, map_more}
+use Rattle.std.proofs.Common.{◌≡◌, ℕ, zero, suc, ◌+◌, ◌*◌, ◌<◌, ◌≤◌, true, eqb, List, [], ◌∷◌, ◌++◌, map, length, get_or, take, Result, sym, refl, ap, ◌∙◌, ap₂, append_assoc, arith}
+use Rattle.std.proofs.lemmas.List.{append-nil, length-append, length-map, length_push, length-take-le, map_more, take_more, take_all}
 use Rattle.std.proofs.lemmas.Bool.{and_parts, eqb-true}
 use Rattle.tables.specs.declared.refusal.Refusal.{Refusal}
 use Rattle.tables.specs.Tables.{Added}
 use Rattle.tables.proofs.Entries.{grew}
 use Rattle.flow.specs.declared.arc.Arc.{Arc}
 use Rattle.book.specs.Rows.{map_with}
-use Rattle.book.specs.Books.{Offer, line_count}
-use Rattle.book.specs.Arcs.{holding_arcs, give_arc, own_arc, get_arc, offer_arcs, offers_arcs, no_flows}
+use Rattle.book.specs.Books.{Offer, line_count, no_holding}
+use Rattle.book.specs.Arcs.{holding_arc, holding_arcs, give_arc, own_arc, get_arc, offer_arcs, offers_arcs, no_flows}
 use Rattle.book.specs.declared.line.Line.{Line}
 use Rattle.book.specs.declared.holding.Holding.{Holding}
 use Rattle.book.proofs.Filled.{length_held, length_offer}
@@ -17,37 +17,49 @@ use Rattle.round.specs.declared.entry.Entry.{Entry}
 use Rattle.round.proofs.Rows.{rows_le, gives_length, gets_length}
 
 -- one more arc
-pub one_more : (before drawn after : List Arc) (start : List Arc) (a : Arc) (r : Result (Unit {0}) Refusal) → before ≡ start ++ drawn → length start + length drawn < 448 → Added 448 before after (a ∷ []) r → after ≡ start ++ (drawn ++ a ∷ [])
-one_more before drawn after start a r e l added =
-    grew 448 before after (a ∷ []) r added (omega (arith, ap length e, length-append start drawn)) ∙ ap (λ xs. xs ++ a ∷ []) e ∙ append_assoc start drawn (a ∷ [])
+one_more : (start before drawn after : List Arc) (a x : Arc) (r : Result (Unit {0}) Refusal) → before ≡ start ++ drawn → length start + length drawn < 448 → a ≡ x → Added 448 before after (a ∷ []) r → after ≡ start ++ (drawn ++ x ∷ [])
+one_more start before drawn after a x r e l is added =
+    grew 448 before after (a ∷ []) r added (omega (arith, ap length e, length-append start drawn)) ∙ ap₂ (λ xs y. xs ++ y ∷ []) e is ∙ append_assoc start drawn (x ∷ [])
+
+-- the arc of one more line
+pub line_more : (f : Line → Arc) (ls : List Line) (i : ℕ) (d : Line) (start before after : List Arc) (a : Arc) (r : Result (Unit {0}) Refusal) → i < length ls → length start + length ls ≤ 448 → before ≡ start ++ map f (take i ls) → a ≡ f (get_or ls i d) → Added 448 before after (a ∷ []) r → after ≡ start ++ map f (take (i + 1) ls)
+line_more f ls i d start before after a r l room e is added =
+    one_more start before (map f (take i ls)) after a (f (get_or ls i d)) r e (omega (arith, length-map (take i ls) f, length-take-le i ls (omega arith))) is added
+    ∙ ap (λ ys. start ++ ys) (sym (map_more f ls i d l))
 
 -- the lines of a side with the same flow on each
 pub map_with_same : {X U Y : Type 0} (f : X → U → Y) (xs : List X) (z : U) → map_with f xs (λ k. z) ≡ map (λ x. f x z) xs
 map_with_same f [] z = refl
 map_with_same f (x ∷ xs) z = ap (λ ys. f x z ∷ ys) (map_with_same f xs z)
 
-pub holding_push : (q : ℕ) (hs : List Holding) (h : Holding) (n : ℕ) → n ≡ q + length hs → holding_arcs q (hs ++ h ∷ []) no_flows.held ≡ holding_arcs q hs no_flows.held ++ record { from = h.item; to = n; capacity = h.units; flow = 0; price = pos 0; weeks = 0 } ∷ []
+holding_push : (q : ℕ) (hs : List Holding) (h : Holding) (n : ℕ) → n ≡ q + length hs → holding_arcs q (hs ++ h ∷ []) no_flows.held ≡ holding_arcs q hs no_flows.held ++ holding_arc n h 0 ∷ []
 holding_push q [] h n e =
     let f : q ≡ n = omega arith in
-    ap (λ m. record { from = h.item; to = m; capacity = h.units; flow = 0; price = pos 0; weeks = 0 } ∷ []) f
-holding_push q (x ∷ hs) h n e = ap (λ ys. record { from = x.item; to = q; capacity = x.units; flow = 0; price = pos 0; weeks = 0 } ∷ ys) (holding_push (q + 1) hs h n (omega arith))
+    ap (λ m. holding_arc m h 0 ∷ []) f
+holding_push q (x ∷ hs) h n e = ap (λ ys. holding_arc q x 0 ∷ ys) (holding_push (q + 1) hs h n (omega arith))
 
--- an offer's own arc behind those of its give lines, with room for m more
-pub own_more : (a b c : List Arc) (x : Arc) (f : Line → Arc) (give : List Line) (r : Result (Unit {0}) Refusal) (g m : ℕ) → b ≡ a ++ map f give → length give ≡ g → length a + (g + m) < 448 → Added 448 b c (x ∷ []) r → (c ≡ b ++ x ∷ []) × (length c + m ≤ 448)
-own_more a b c x f give r g m e long room added =
-    let lb = ap length e in
-    let la = length-append a (map f give) in
-    let lm = length-map give f in
-    let grown = grew 448 b c (x ∷ []) r added (omega arith) in
-    (grown, omega (arith, ap length grown, length_push b x))
+-- the arc of one more holding
+pub holding_more : (q : ℕ) (hs : List Holding) (k : ℕ) (start before after : List Arc) (a : Arc) (r : Result (Unit {0}) Refusal) → k < length hs → length start + length hs ≤ 448 → before ≡ start ++ holding_arcs q (take k hs) no_flows.held → a ≡ holding_arc (q + k) (get_or hs k no_holding) 0 → Added 448 before after (a ∷ []) r → after ≡ start ++ holding_arcs q (take (k + 1) hs) no_flows.held
+holding_more q hs k start before after a r l room e is added =
+    let long = length-take-le k hs (omega arith) in
+    one_more start before (holding_arcs q (take k hs) no_flows.held) after a (holding_arc (q + k) (get_or hs k no_holding) 0) r e (omega (arith, length_held q (take k hs) no_flows.held)) is added
+    ∙ ap (λ ys. start ++ ys) (sym (ap (λ xs. holding_arcs q xs no_flows.held) (take_more hs k no_holding l) ∙ holding_push q (take k hs) (get_or hs k no_holding) (q + k) (omega arith)))
+
+-- an offer's own arc behind those of its give lines
+pub own_more : (f : Line → Arc) (give : List Line) (i : ℕ) (start before after : List Arc) (a own : Arc) (r : Result (Unit {0}) Refusal) → length give ≤ i → length start + length give < 448 → before ≡ start ++ map f (take i give) → a ≡ own → Added 448 before after (a ∷ []) r → (after ≡ start ++ (map f give ++ own ∷ [])) × (length after ≡ length start + (length give + 1))
+own_more f give i start before after a own r end room e is added =
+    let gave = e ∙ ap (λ ls. start ++ map f ls) (take_all i give end) in
+    let long = length-map give f in
+    let grown = one_more start before (map f give) after a own r gave (omega arith) is added in
+    (grown, omega (arith, ap length grown, length-append start (map f give ++ own ∷ []), length_push (map f give) own))
 
 -- the three parts of an offer's arcs
-pub offer_parts : (n : ℕ) (hs : List Holding) (p : ℕ) (o : Offer) (a b c d : List Arc) → b ≡ a ++ map (λ l. give_arc n hs o.member p l 0) o.give → c ≡ b ++ own_arc p o.limit 0 ∷ [] → d ≡ c ++ map (λ l. get_arc (p + 1) l 0) o.get → d ≡ a ++ offer_arcs n hs p o (no_flows.offers 0)
-offer_parts n hs p o a b c d eb ec ed =
+pub offer_parts : (n : ℕ) (hs : List Holding) (p : ℕ) (o : Offer) (a b c : List Arc) → b ≡ a ++ (map (λ l. give_arc n hs o.member p l 0) o.give ++ own_arc p o.limit 0 ∷ []) → c ≡ b ++ map (λ l. get_arc (p + 1) l 0) o.get → c ≡ a ++ offer_arcs n hs p o (no_flows.offers 0)
+offer_parts n hs p o a b c eb ec =
     let gives = map (λ l. give_arc n hs o.member p l 0) o.give in
     let own = own_arc p o.limit 0 in
     let gets = map (λ l. get_arc (p + 1) l 0) o.get in
-    ed ∙ ap (λ ys. ys ++ gets) (ec ∙ ap (λ ys. ys ++ own ∷ []) eb) ∙ append_assoc (a ++ gives) (own ∷ []) gets ∙ append_assoc a gives (own ∷ gets)
+    ec ∙ ap (λ ys. ys ++ gets) eb ∙ append_assoc a (gives ++ own ∷ []) gets ∙ ap (λ ys. a ++ ys) (append_assoc gives (own ∷ []) gets)
     ∙ ap (λ ys. a ++ ys) (ap₂ (λ ys zs. ys ++ (own ∷ zs)) (sym (map_with_same (give_arc n hs o.member p) o.give 0)) (sym (map_with_same (get_arc (p + 1)) o.get 0)))
 
 module _ (n : ℕ) (hs : List Holding) where
@@ -82,23 +94,25 @@ rows_at n (e ∷ es) ls (suc k) d h l =
 abbrev pub front : ℕ → List Holding → List Line → List Entry → ℕ → List Arc
 front n hs ls es k = holding_arcs n hs no_flows.held ++ offers_arcs n hs (n + length hs) (map (offer_of ls) (take k es)) no_flows.offers
 
-module _ (n : ℕ) (hs : List Holding) (ls : List Line) (es : List Entry) (k : ℕ) (d : Entry) (before : List Arc) (drawn : before ≡ front n hs ls es k) (lt : k < length es) where
+module _ (n : ℕ) (hs : List Holding) (ls : List Line) (es : List Entry) (k : ℕ) (d : Entry) (before : List Arc) (drawn : before ≡ front n hs ls es k) (lt : k < length es) (o : Offer) (shown : o ≡ offer_of ls (get_or es k d)) where
   -- there is room for the arcs of one more
-  pub front_room : length hs ≤ 128 → length ls ≤ 256 → length es ≤ 64 → in_rows 0 es (length ls) ≡ true → length before + ((get_or es k d).gives + (get_or es k d).gets) < 448
+  pub front_room : length hs ≤ 128 → length ls ≤ 256 → length es ≤ 64 → in_rows 0 es (length ls) ≡ true → length before + (length o.give + length o.get) < 448
   front_room lh ll le h =
       let os = map (offer_of ls) (take k es) in
+      let e = get_or es k d in
       let at = rows_at 0 es ls k d h lt in
       let a = length-append (holding_arcs n hs no_flows.held) (offers_arcs n hs (n + length hs) os no_flows.offers) in
       let b = length_held n hs no_flows.held in
       let c = offers_length n hs (n + length hs) os in
+      let gives = ap (λ x. length x.give) shown ∙ gives_length ls e at.1 in
+      let gets = ap (λ x. length x.get) shown ∙ gets_length ls e at.1 in
       omega (arith, ap length drawn, at.0, at.1, length-map (take k es) (offer_of ls), length-take-le k es (omega arith))
 
-  pub front_more : (after : List Arc) (q : ℕ) → q ≡ (n + length hs) + 2 * k → after ≡ before ++ offer_arcs n hs q (offer_of ls (get_or es k d)) (no_flows.offers 0) → after ≡ front n hs ls es (k + 1)
+  pub front_more : (after : List Arc) (q : ℕ) → q ≡ (n + length hs) + 2 * k → after ≡ before ++ offer_arcs n hs q o (no_flows.offers 0) → after ≡ front n hs ls es (k + 1)
   front_more after q e added =
       let os = map (offer_of ls) (take k es) in
-      let o = offer_of ls (get_or es k d) in
       let held = holding_arcs n hs no_flows.held in
       let many : q ≡ (n + length hs) + 2 * length os = omega (arith, length-map (take k es) (offer_of ls), length-take-le k es (omega arith)) in
-      added ∙ ap (λ xs. xs ++ offer_arcs n hs q o (no_flows.offers 0)) drawn
-      ∙ append_assoc held (offers_arcs n hs (n + length hs) os no_flows.offers) (offer_arcs n hs q o (no_flows.offers 0))
-      ∙ ap (λ xs. held ++ xs) (sym (ap (λ xs. offers_arcs n hs (n + length hs) xs no_flows.offers) (map_more (offer_of ls) es k d lt) ∙ offers_push n hs (n + length hs) os o q many))
+      added ∙ ap₂ (λ xs x. xs ++ offer_arcs n hs q x (no_flows.offers 0)) drawn shown
+      ∙ append_assoc held (offers_arcs n hs (n + length hs) os no_flows.offers) (offer_arcs n hs q (offer_of ls (get_or es k d)) (no_flows.offers 0))
+      ∙ ap (λ xs. held ++ xs) (sym (ap (λ xs. offers_arcs n hs (n + length hs) xs no_flows.offers) (map_more (offer_of ls) es k d lt) ∙ offers_push n hs (n + length hs) os (offer_of ls (get_or es k d)) q many))

@@ -1,18 +1,17 @@
 -- Where an offer's lines and arcs stand, and the units on them.
-use Rattle.std.proofs.Common.{◌≡◌, ℕ, zero, suc, ◌+◌, ◌*◌, ◌<◌, ◌≤◌, true, cond, eqb, List, [], ◌∷◌, map, length, get_or, take, drop, sym, ap, ◌∙◌, subst, ap₂, mul-le-mul_left, arith}
+use Rattle.std.proofs.Common.{◌≡◌, ℕ, zero, suc, ◌+◌, ◌<◌, ◌≤◌, true, eqb, List, [], ◌∷◌, map, length, get_or, take, drop, sym, ap, ◌∙◌, subst, arith}
 use native.Mathlib.Bridge.{le_prop}
 use native.Mathlib.Nat.{ℕ_set}
 use mathlib.Core.Logic.{∥∥₁_elim}
 use Rattle.std.specs.List.{AllByRecursion}
 use Rattle.std.proofs.lemmas.List.{length-map, length-drop, length-take-le, get_or-take, get_or-drop}
 use Rattle.std.proofs.ByRecursion.{All-get_or}
-use Rattle.std.proofs.lemmas.Bool.{and_parts, eqb-true, eq-eqb, ne_eqb, cond-true, cond-false}
-use Rattle.tables.proofs.Entries.{length_entries}
+use Rattle.std.proofs.lemmas.Bool.{and_parts, eqb-true}
 use Rattle.flow.specs.declared.arc.Arc.{Arc}
 use Rattle.flow.specs.Arcs.{blank, flow_of}
 use Rattle.book.specs.Rows.{sum_with}
 use Rattle.book.specs.Books.{Book, Offer, no_offer, Fair, FairOffer}
-use Rattle.book.specs.Allotments.{Allotment, price_of}
+use Rattle.book.specs.Allotments.{Allotment}
 use Rattle.book.specs.Arcs.{no_flows, arcs_of, arcs_before}
 use Rattle.book.specs.declared.line.Line.{Line}
 use Rattle.book.proofs.Filled.{sum_with_alike}
@@ -20,13 +19,14 @@ use Rattle.book.proofs.Filled.{length_arcs}
 use Rattle.round.specs.Kept.{offer_of, in_rows, Entered}
 use Rattle.round.specs.Rounds.{with_offers}
 use Rattle.round.specs.Closed.{closed_book, closed_allotment}
-use Rattle.round.specs.Questions.{weeks_on, lines_on, units_on, offer_at, Moderate, Sided}
+use Rattle.round.specs.Questions.{lines_on, units_on, offer_at, Sided}
 use Rattle.round.specs.declared.entry.Entry.{Entry}
 use Rattle.round.specs.declared.closed_round.ClosedRound.{ClosedRound}
 use Rattle.book.specs.declared.side.Side.{Side}
 use Rattle.book.specs.declared.side.Side.TheVariants.{Give, Get}
 use Rattle.round.proofs.Rows.{rows_le, gives_length, gets_length, count_rows, offer_at as entry_offer}
 use Rattle.round.proofs.Drawn.{rows_at}
+use Rattle.round.proofs.Sounds.{few_lines}
 use Rattle.round.specs.Carrying.{sound_closed}
 
 before_is : (n : ℕ) (es : List Entry) (ls : List Line) (k : ℕ) (d : Entry) → in_rows n es (length ls) ≡ true → k < length es → n + arcs_before (map (offer_of ls) es) k ≡ (get_or es k d).first + k
@@ -77,30 +77,24 @@ module _ {W : Type 0} (x : ClosedRound W) where
   small_flow : (i : ℕ) → i < length x.arcs → flow_of x.arcs i ≤ 1000
   small_flow i l = let s = (sound_closed x).each i l in omega (arith, s.held, s.small)
 
-  module _ (k : ℕ) (e : Entry) (en : Entered (closed_book x) x.round.lines k e) (s : Side) (first count : ℕ) where
+  module _ (k : ℕ) (e : Entry) (en : Entered (closed_book x) x.round.lines k e) (s : Side) (first : ℕ) where
     -- the lines of a side and a part of the arcs go together, where the side's arcs begin at the first
-    pub sided : (ls : List Line) (arcs : List Arc) → ls ≡ lines_on s (offer_of x.round.lines e) → length (lines_on s (offer_of x.round.lines e)) ≡ count → ((t : ℕ) → units_on s (closed_allotment x k) t ≡ flow_of x.arcs (first + t)) → first + count ≤ length x.arcs → arcs ≡ take count (drop first x.arcs) → Sided (closed_book x) (closed_allotment x) k s ls arcs
-    sided ls arcs el long at inside ea = record {
+    pub sided : (ls : List Line) (arcs : List Arc) → ls ≡ lines_on s (offer_of x.round.lines e) → arcs ≡ take (length ls) (drop first x.arcs) → ((t : ℕ) → units_on s (closed_allotment x k) t ≡ flow_of x.arcs (first + t)) → first + length ls ≤ length x.arcs → Sided (closed_book x) (closed_allotment x) k s ls arcs
+    sided ls arcs el ea at inside = record {
       known = en.known;
       lines = lines;
-      units = λ t l. flows t (omega (arith, many)) ∙ sym (at t);
-      moderate = record { long = as_many; few = few; small = λ t d l. (price t d l, subst (λ n. n ≤ 1000) (sym (flows t (omega (arith, many)))) (small_flow (first + t) (omega (arith, many)))) };
+      units = λ t l. flows t l ∙ sym (at t);
+      moderate = record { long = ap length ea ∙ part_length x.arcs first (length ls) inside; few = few; small = λ t d l. (price t d l, subst (λ n. n ≤ 1000) (sym (flows t l)) (small_flow (first + t) (omega arith))) };
     }
       where
         lines : ls ≡ lines_on s (offer_at (closed_book x) k)
         lines = el ∙ ap (lines_on s) (sym en.is)
 
-        many : length ls ≡ count
-        many = ap length el ∙ long
-
-        as_many : length arcs ≡ length ls
-        as_many = ap length ea ∙ part_length x.arcs first count inside ∙ sym many
-
-        flows : (t : ℕ) → t < count → flow_of arcs t ≡ flow_of x.arcs (first + t)
-        flows t l = ap (λ xs. flow_of xs t) ea ∙ part_flow x.arcs first count t l
+        flows : (t : ℕ) → t < length ls → flow_of arcs t ≡ flow_of x.arcs (first + t)
+        flows t l = ap (λ xs. flow_of xs t) ea ∙ part_flow x.arcs first (length ls) t l
 
         few : length ls ≤ 256
-        few = omega (arith, many, sides_within s e x.round.lines en.within, long, length_entries x.round.lines)
+        few = omega (arith, ap length el, sides_within s e x.round.lines en.within, few_lines x.round)
 
         price : (t : ℕ) (d : Line) → t < length ls → (get_or ls t d).price ≤ 1000000
         price t d l =
@@ -118,35 +112,6 @@ pub sum_more : {X U : Type 0} (f : X → U → ℕ) (xs : List X) (u : ℕ → U
 sum_more f xs u i d l =
     let e : i + 1 ≡ suc i = omega arith in
     ap (λ n. sum_with f (take n xs) u) e ∙ sum_suc f xs u i d l
-
-product_small : (p n : ℕ) → p ≤ 1000000 → n ≤ 1000 → p * n ≤ 1000000000
-product_small p n hp hn = omega (arith, mul-le-mul_left p hn)
-
-module _ (ls : List Line) (arcs : List Arc) (m : Moderate ls arcs) (i sum : ℕ) (d : Line) (l : i < length ls) where
-  pub price_more : (p n : ℕ) → p ≡ (get_or ls i d).price → n ≡ flow_of arcs i → (sum ≡ price_of (take i ls) (flow_of arcs)) × (sum ≤ 1000000000 * i) → (sum + p * n ≡ price_of (take (i + 1) ls) (flow_of arcs)) × (sum + p * n ≤ 1000000000 * (i + 1))
-  price_more p n ep en inv =
-      let s = m.small i d l in
-      let same : p * n ≡ (get_or ls i d).price * flow_of arcs i = ap₂ (λ x y. x * y) ep en in
-      let small = product_small p n (omega (arith, s.0)) (omega (arith, s.1)) in
-      let more = sum_more (λ l n. l.price * n) ls (flow_of arcs) i d l in
-      (omega (arith, inv.0), omega (arith, inv.1))
-
-  weeks_next : sum ≡ weeks_on (take i ls) (flow_of arcs) → sum + cond (eqb (get_or ls i d).item 0) 0 (flow_of arcs i) ≡ weeks_on (take (i + 1) ls) (flow_of arcs)
-  weeks_next e = ap (λ n. n + cond (eqb (get_or ls i d).item 0) 0 (flow_of arcs i)) e ∙ sym (sum_more (λ l n. cond (eqb l.item 0) 0 n) ls (flow_of arcs) i d l)
-
-  -- a line that is not of cash
-  pub weeks_more : (next : ℕ) → next ≡ sum + flow_of arcs i → ((get_or ls i d).item ≡ 0 → ⊥) → (sum ≡ weeks_on (take i ls) (flow_of arcs)) × (sum ≤ 1000 * i) → (next ≡ weeks_on (take (i + 1) ls) (flow_of arcs)) × (next ≤ 1000 * (i + 1))
-  weeks_more next is other inv =
-      let s = m.small i d l in
-      let c = cond-false (eqb (get_or ls i d).item 0) 0 (flow_of arcs i) (ne_eqb (get_or ls i d).item 0 other) in
-      (is ∙ ap (λ n. sum + n) (sym c) ∙ weeks_next inv.0, omega (arith, inv.1, s.1))
-
-  -- a line of cash
-  pub weeks_same : (next : ℕ) → next ≡ sum → (get_or ls i d).item ≡ 0 → (sum ≡ weeks_on (take i ls) (flow_of arcs)) × (sum ≤ 1000 * i) → (next ≡ weeks_on (take (i + 1) ls) (flow_of arcs)) × (next ≤ 1000 * (i + 1))
-  weeks_same next is cash inv =
-      let c = cond-true (eqb (get_or ls i d).item 0) 0 (flow_of arcs i) (eq-eqb (get_or ls i d).item 0 cash) in
-      let none : sum ≡ sum + 0 = omega arith in
-      (is ∙ none ∙ ap (λ n. sum + n) (sym c) ∙ weeks_next inv.0, omega (arith, inv.1))
 
 -- a sum over a side is one over the units of the allotment
 pub side_sum : (f : Line → ℕ → ℕ) (b : Book) (a : Allotment) (k : ℕ) (s : Side) (ls : List Line) (arcs : List Arc) → Sided b a k s ls arcs → sum_with f ls (flow_of arcs) ≡ sum_with f (lines_on s (offer_at b k)) (units_on s (a k))

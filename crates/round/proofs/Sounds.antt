@@ -1,7 +1,9 @@
 -- Each call on an open round leaves its book sound.
 use Rattle.std.proofs.Common.{◌≡◌, ℕ, zero, suc, ◌+◌, ◌<◌, ◌≤◌, List, [], ◌∷◌, ◌++◌, map, length, get_or, set, Some, None, Ok, Err, Option, Result, sym, refl, ap, ◌∙◌, subst, inl, inr, arith}
+use native.Mathlib.Bridge.{le_prop}
+use mathlib.Core.Logic.{∥∥₁_elim}
 use Rattle.std.specs.List.{ContainsAt as Has, AllByRecursion}
-use Rattle.std.proofs.lemmas.List.{map_push, length-set, get_or_append_left, get_or_push, length_push, get_or_default}
+use Rattle.std.proofs.lemmas.List.{length-map, map_push, length-set, get_or_append_left, get_or_push, length_push, get_or_default}
 use Rattle.std.proofs.ByRecursion.{All-get_or, All-from_get_or, All-weaker, All-push, All-set}
 use Rattle.std.proofs.lemmas.Bool.{cases_lt, cases_Bool, both_ways}
 use Rattle.tables.specs.Refusals.{First}
@@ -11,12 +13,15 @@ use Rattle.book.specs.Spelling.{name_bytes, Spelt}
 use Rattle.book.specs.Books.{Book, Offer, no_offer, pair, spot_of, Distinct, Twice, Any, item_of, line_count, FairHolding, Fair, Side, FairOffer, Sound}
 use Rattle.book.specs.declared.line.Line.{Line}
 use Rattle.book.specs.declared.holding.Holding.{Holding}
-use Rattle.round.specs.Rounds.{fresh}
+use Rattle.round.specs.Rounds.{fresh, with_offers}
 use Rattle.round.specs.Naming.{TakesItem, TakesMember}
 use Rattle.round.specs.Holdings.{put_at, Holds}
 use Rattle.terms.specs.Lines.{Out}
 use Rattle.round.specs.Offering.{offering, TakesOffer, withdrawn, Withdraws}
 use Rattle.terms.proofs.Spots.{spot_some, spot_none}
+use Rattle.round.specs.Kept.{offer_of}
+use Rattle.round.specs.declared.open_round.OpenRound.{OpenRound}
+use Rattle.round.proofs.Rows.{count_rows}
 
 pub sound_fresh : Sound fresh
 sound_fresh = record {
@@ -36,10 +41,10 @@ sound_fresh = record {
 }
 
 below : (a b : ℕ) → (b ≤ a → ⊥) → a < b
-below a b f = elim (cases_lt a b) [ inl l ↦ l | inr l ↦ absurd (f l) ]
+below a b f = omega arith
 
 at_most : (a b : ℕ) → (b < a → ⊥) → a ≤ b
-at_most a b f = elim (cases_lt b a) [ inl l ↦ absurd (f l) | inr l ↦ l ]
+at_most a b f = omega arith
 
 -- a name that is not ill spelt is spelt
 spelt : (s : List ℕ) → ((Spelt s → ⊥) → ⊥) → Spelt s
@@ -217,26 +222,30 @@ count_push : (os : List Offer) (o : Offer) → line_count (os ++ o ∷ []) ≡ l
 count_push [] o = omega arith
 count_push (x ∷ os) o = omega (arith, count_push os o)
 
+-- other offers, if they are fair and few, leave a book sound
+offers_sound : (b : Book) (os : List Offer) → Sound b → AllByRecursion (FairOffer (length b.items) (length b.members)) os → length os ≤ 64 → line_count os ≤ 256 → Sound (with_offers b os)
+offers_sound b os k fair few lines = record {
+  cash = k.cash;
+  items_spelt = k.items_spelt;
+  items_apart = k.items_apart;
+  items_few = k.items_few;
+  members_spelt = k.members_spelt;
+  members_apart = k.members_apart;
+  members_few = k.members_few;
+  holdings_fair = k.holdings_fair;
+  holdings_apart = k.holdings_apart;
+  holdings_few = k.holdings_few;
+  offers_fair = fair;
+  offers_few = few;
+  lines_few = lines;
+}
+
 pub sound_offer : (b b' : Book) (o : Offer) (r : Result ℕ Refusal) → TakesOffer b b' o r → Sound b → Sound b'
 sound_offer b b' o (Err e) t k = subst Sound (sym t.outcome) k
 sound_offer b b' o (Ok n) t k =
     let rm = room b o t.refused in
-    let P = FairOffer (length b.items) (length b.members) in
-    subst Sound (sym t.outcome.1) (record {
-      cash = k.cash;
-      items_spelt = k.items_spelt;
-      items_apart = k.items_apart;
-      items_few = k.items_few;
-      members_spelt = k.members_spelt;
-      members_apart = k.members_apart;
-      members_few = k.members_few;
-      holdings_fair = k.holdings_fair;
-      holdings_apart = k.holdings_apart;
-      holdings_few = k.holdings_few;
-      offers_fair = All-push P b.offers o k.offers_fair (fair_offer b o t.refused);
-      offers_few = omega (arith, rm.0, length_push b.offers o);
-      lines_few = omega (arith, rm.1, count_push b.offers o);
-    })
+    subst Sound (sym t.outcome.1)
+    (offers_sound b (b.offers ++ o ∷ []) k (All-push (FairOffer (length b.items) (length b.members)) b.offers o k.offers_fair (fair_offer b o t.refused)) (omega (arith, rm.0, length_push b.offers o)) (omega (arith, rm.1, count_push b.offers o)))
 
 count_set : (os : List Offer) (k : ℕ) → line_count (set os k (withdrawn (get_or os k no_offer))) ≡ line_count os
 count_set [] zero = refl
@@ -247,22 +256,19 @@ count_set (x ∷ os) (suc k) = ap (λ n. (length x.give + length x.get) + n) (co
 pub sound_withdraw : (b b' : Book) (n : ℕ) (r : Result (Unit {0}) Refusal) → Withdraws b b' n r → Sound b → Sound b'
 sound_withdraw b b' n (Err e) t k = subst Sound (sym t.outcome) k
 sound_withdraw b b' n (Ok u) t k =
-    let l = below n (length b.offers) (not_first t.refused) in
     let P = FairOffer (length b.items) (length b.members) in
     let o = get_or b.offers n no_offer in
-    let g = All-get_or P b.offers n no_offer l k.offers_fair in
-    subst Sound (sym t.outcome) (record {
-      cash = k.cash;
-      items_spelt = k.items_spelt;
-      items_apart = k.items_apart;
-      items_few = k.items_few;
-      members_spelt = k.members_spelt;
-      members_apart = k.members_apart;
-      members_few = k.members_few;
-      holdings_fair = k.holdings_fair;
-      holdings_apart = k.holdings_apart;
-      holdings_few = k.holdings_few;
-      offers_fair = All-set P b.offers n (withdrawn o) (record { known = g.known; most = omega arith; gives = g.gives; gets = g.gets; no_loop = g.no_loop }) k.offers_fair;
-      offers_few = omega (arith, k.offers_few, length-set b.offers n (withdrawn o));
-      lines_few = omega (arith, k.lines_few, count_set b.offers n);
-    })
+    let g = All-get_or P b.offers n no_offer (below n (length b.offers) (not_first t.refused)) k.offers_fair in
+    let fair : P (withdrawn o) = record { known = g.known; most = omega arith; gives = g.gives; gets = g.gets; no_loop = g.no_loop } in
+    subst Sound (sym t.outcome)
+    (offers_sound b (set b.offers n (withdrawn o)) k (All-set P b.offers n (withdrawn o) fair k.offers_fair) (omega (arith, k.offers_few, length-set b.offers n (withdrawn o))) (omega (arith, k.lines_few, count_set b.offers n)))
+
+-- the tables of a round have the sizes of its book
+pub few_holdings : (r : OpenRound) → length r.holdings ≤ 128
+few_holdings r = ∥∥₁_elim r.sound le_prop (λ s. s.holdings_few)
+
+pub few_offers : (r : OpenRound) → length r.offers ≤ 64
+few_offers r = omega (arith, ∥∥₁_elim r.sound le_prop (λ s. s.offers_few), length-map r.offers (offer_of r.lines))
+
+pub few_lines : (r : OpenRound) → length r.lines ≤ 256
+few_lines r = omega (arith, ∥∥₁_elim r.sound le_prop (λ s. s.lines_few), count_rows 0 r.offers r.lines r.rows)

@@ -1,25 +1,18 @@
--- Flows on the network of a book: they keep its bounds, and a push leaves them so.
-use Rattle.std.specs.Prelude.{◌≡◌, ℕ, ◌<◌, ◌≤◌, ◌⊎◌, List, length, ℤ, pos, ◌+ℤ◌, ◌≤ℤ◌, ◌<ℤ◌, Ok, Err, Result, int_le, slice_set, unsigned_abs, refl}
-use Rattle.std.proofs.Common.{arith, sym, ◌∙◌, ap, subst, inl, inr, ⊎_elim}
+-- Flows on the network of a book keep its bounds.
+use Rattle.std.specs.Prelude.{◌≡◌, ℕ, ◌<◌, List, ℤ, ◌≤ℤ◌, int_le, refl}
+use Rattle.std.proofs.Common.{arith, ◌∙◌, ap, subst}
 use Rattle.std.proofs.Math.Bridge.{le_prop}
 use mathlib.Core.HLevel.{is_prop→PathP}
 use Rattle.std.proofs.Math.Logic.{∥∥₁_prop, ∥∥₁_elim}
 use Rattle.std.proofs.Math.Dec.{T_prop}
-use Rattle.std.proofs.lemmas.List.{length-set, get_or-set_same, get_or-set_other}
-use Rattle.std.proofs.lemmas.Int.{ints, by_lt_z}
-use Rattle.std.proofs.lemmas.Bool.{cases_lt, cases_eq}
-use Rattle.tables.specs.declared.refusal.Refusal.{Refusal}
-use Rattle.tables.proofs.Firsts.{not_first, not_rest}
 use Rattle.flow.specs.declared.arc.Arc.{Arc}
-use Rattle.flow.specs.Arcs.{blank, arc_at, flow_of, SameArcs, with_flow}
-use Rattle.flow.proofs.Rows.{pushed_same}
+use Rattle.flow.specs.Arcs.{arc_at, flow_of, SameArcs}
 use Rattle.network.specs.Networks.{Net, SoundArc, flow_in}
 use Rattle.network.specs.Networks as networks
-use Rattle.network.specs.Pushes.{ArcsPushed}
 use Rattle.book.specs.Books.{Book, Sound}
-use Rattle.book.specs.Arcs.{nodes, arcs_of}
+use Rattle.book.specs.Arcs.{nodes}
 use Rattle.book.proofs.Networks.{network_flowing}
-use Rattle.book.proofs.Sizes.{network_is_sound_lem, flowing_is_sound}
+use Rattle.book.proofs.Sizes.{flowing_is_sound}
 use Rattle.round.specs.Carried.{Carries}
 use Rattle.round.specs.Rounds.{book}
 use Rattle.round.specs.Closed.{closed_net, Alike}
@@ -56,38 +49,11 @@ same_trans ls ms ks p q = record {
   each = λ i l. let a = p.each i l in let b = q.each i (subst (λ n. i < n) p.long l) in record { from = a.from ∙ b.from; to = a.to ∙ b.to; capacity = a.capacity ∙ b.capacity; price = a.price ∙ b.price; weeks = a.weeks ∙ b.weeks };
 }
 
-pub carries_none : (b : Book) → Sound b → Carries b (arcs_of b)
-carries_none b s = record { same = same_refl (arcs_of b); within = λ i l. ((network_is_sound_lem b s).0.each i l).held }
-
 pub carries_sound : (b : Book) (arcs : List Arc) → Sound b → Carries b arcs → networks.Sound (record { nodes = nodes b; arcs = arcs })
 carries_sound b arcs s c =
     let n : Net = record { nodes = nodes b; arcs = arcs } in
     subst networks.Sound (network_flowing b n (record { same_nodes = refl; same_arcs = c.same }))
     (flowing_is_sound b (flow_of arcs) s (λ i l. let e = (c.same.each i l).capacity in let w = c.within i (subst (λ k. i < k) c.same.long l) in omega arith))
-
-inside : (f m : ℕ) (by : ℤ) → (((pos f +ℤ by) <ℤ pos 0) ⊎ (pos m <ℤ (pos f +ℤ by)) → ⊥) → unsigned_abs (pos f +ℤ by) ≤ m
-inside f m by out = by_lt_z (pos f +ℤ by) (pos 0) (λ l. absurd (out (inl l))) (λ g. by_lt_z (pos m) (pos f +ℤ by) (λ l. absurd (out (inr l))) (λ h. omega (arith, ints)))
-
--- a push leaves the flows within the capacities, and nothing else changes
-pub carries_pushed : (b : Book) (before after : List Arc) (i : ℕ) (by : ℤ) (r : Result (Unit {0}) Refusal) → ArcsPushed before after i by r → Carries b before → Carries b after
-carries_pushed b before after i by (Err e) p c = subst (Carries b) (sym (ap (λ n. n.arcs) (p 0).outcome)) c
-carries_pushed b before after i by (Ok u) p c = subst (Carries b) (sym (ap (λ n. n.arcs) (p 0).outcome)) (record { same = same_trans (arcs_of b) before (slice_set before i moved) c.same (pushed_same before i k l); within = within })
-  where
-    l : i < length before
-    l = ⊎_elim (λ h. h) (λ h. absurd (not_first (p 0).refused h)) (cases_lt i (length before))
-
-    k : ℕ
-    k = unsigned_abs (pos (flow_of before i) +ℤ by)
-
-    moved : Arc
-    moved = with_flow k (arc_at before i)
-
-    within : (j : ℕ) → j < length (slice_set before i moved) → (arc_at (slice_set before i moved) j).flow ≤ (arc_at (slice_set before i moved) j).capacity
-    within j h =
-        ⊎_elim
-        (λ e. subst (λ a. a.flow ≤ a.capacity) (sym (ap (arc_at (slice_set before i moved)) e ∙ get_or-set_same before i moved blank l)) (inside (flow_of before i) (arc_at before i).capacity by (not_first (not_rest (p 0).refused))))
-        (λ d. subst (λ a. a.flow ≤ a.capacity) (sym (get_or-set_other before i j moved blank d)) (c.within j (subst (λ n. j < n) (length-set before i moved) h)))
-        (cases_eq j i)
 
 pub alike_settled : {W : Type 0} (x y : ClosedRound W) → Alike x y → closed_net x ≡ closed_net y → x ≡ y
 alike_settled x y a e =

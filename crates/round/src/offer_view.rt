@@ -1,7 +1,7 @@
 use book::line::Line;
 
 // An offer to be read: its lines are still parts of the round.
-#[derive(Clone, Copy)]
+#[derive(Clone, Copy, Debug, PartialEq, Eq)]
 pub struct OfferView<'a> {
     pub member: u32,
     pub limit: u32,

@@ -21,10 +21,7 @@ impl<W: Worth> Network for ClosedRound<W> {
     }
 
     fn arc(&self, i: u32) -> Result<Arc, Refusal> {
-        match self.arcs.get(i as usize) {
-            Some(arc) => Ok(arc),
-            None => Err(Refusal::Unknown),
-        }
+        self.arcs.get(i as usize).ok_or(Refusal::Unknown)
     }
 }
 

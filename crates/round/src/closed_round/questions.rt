@@ -7,9 +7,9 @@ ghost use Rattle.round.specs.Holdings.{AnswersHolding};
 ghost use Rattle.round.specs.Questions.{weeks_on, Moderate, Sided, AnswersUnits, AnswersPayoff};
 ghost use Rattle.round.specs.Uses.{Law};
 
-use book::side::Side;
 use super::ClosedRound;
 use book::line::Line;
+use book::side::Side;
 use flow::arc::Arc;
 use network::valuation::worth;
 use tables::refusal::Refusal;
@@ -21,11 +21,11 @@ fn total_price(lines: &[Line], arcs: &[Arc]) -> u64
     ensures sum { result ≡ price_of lines.now (flow_of arcs.now) }
     ensures bound { result ≤ 256000000000 }
 {
-    let mut sum = 0;
-    for (i, line) in lines.iter().enumerate() {
-        sum += u64::from(line.price) * u64::from(arcs[i].flow);
-    }
-    sum
+    lines
+        .iter()
+        .zip(arcs)
+        .map(|(line, arc)| u64::from(line.price) * u64::from(arc.flow))
+        .sum()
 }
 
 // The flow over the lines of a side that are not of cash.
@@ -33,21 +33,12 @@ fn total_weeks(lines: &[Line], arcs: &[Arc]) -> u32
     requires { Moderate lines.now arcs.now }
     ensures { result ≡ weeks_on lines.now (flow_of arcs.now) }
 {
-    let mut sum = 0;
-    for (i, line) in lines.iter().enumerate() {
-        if line.item != 0 {
-            sum += arcs[i].flow;
-        }
-    }
-    sum
-}
-
-// What is got less what is given.
-fn difference(got: u64, given: u64) -> i64
-    requires { (got ≤ 256000000000) × (given ≤ 256000000000) }
-    ensures { result ≡ pos got -ℤ pos given }
-{
-    got as i64 - given as i64
+    lines
+        .iter()
+        .zip(arcs)
+        .filter(|(line, _)| line.item != 0)
+        .map(|(_, arc)| arc.flow)
+        .sum()
 }
 
 impl<W: Worth> ClosedRound<W> {
@@ -56,8 +47,7 @@ impl<W: Worth> ClosedRound<W> {
         requires { first + count ≤ length self.now.arcs }
         ensures { result.now ≡ take count (drop first self.now.arcs) }
     {
-        let arcs = self.arcs.as_slice();
-        &arcs[first..first + count]
+        &self.arcs.as_slice()[first..][..count]
     }
 
     // The lines of an offer's side, and the arcs that stand for them.
@@ -65,13 +55,13 @@ impl<W: Worth> ClosedRound<W> {
         ensures { MatchOption result (length (closed_book self.now).offers ≤ offer) (λ p. Sided (closed_book self.now) (closed_allotment self.now) offer side p.0.now p.1.now) }
     {
         let entry = self.round.entry(offer)?;
-        let gives = entry.gives as usize;
+        let view = self.round.show(entry);
         let first = self.round.first_arc(offer, entry);
         match side {
-            Side::Give => Some((self.round.give_lines(entry), self.part(first, gives))),
+            Side::Give => Some((view.give, self.part(first, view.give.len()))),
             Side::Get => {
-                let arcs = self.part(first + gives + 1, entry.gets as usize);
-                Some((self.round.get_lines(entry), arcs))
+                let first = first + view.give.len() + 1;
+                Some((view.get, self.part(first, view.get.len())))
             }
         }
     }
@@ -80,26 +70,19 @@ impl<W: Worth> ClosedRound<W> {
     pub fn units(&self, offer: u32, side: Side, line: u32) -> Result<u32, Refusal>
         ensures { AnswersUnits (closed_book self.now) (closed_allotment self.now) offer side line result }
     {
-        let Some((_, arcs)) = self.side(offer, side) else {
-            return Err(Refusal::Unknown);
-        };
-        match arcs.get(line as usize) {
-            Some(arc) => Ok(arc.flow),
-            None => Err(Refusal::Unknown),
-        }
+        let (_, arcs) = self.side(offer, side).ok_or(Refusal::Unknown)?;
+        arcs.get(line as usize)
+            .map(|arc| arc.flow)
+            .ok_or(Refusal::Unknown)
     }
 
     // An offer's payoff and its weeks got.
     pub fn payoff(&self, offer: u32) -> Result<(i64, u32), Refusal>
         ensures { AnswersPayoff (closed_book self.now) (closed_allotment self.now) offer result }
     {
-        let Some((give, given)) = self.side(offer, Side::Give) else {
-            return Err(Refusal::Unknown);
-        };
-        let Some((get, got)) = self.side(offer, Side::Get) else {
-            return Err(Refusal::Unknown);
-        };
-        let money = difference(total_price(get, got), total_price(give, given));
+        let (give, given) = self.side(offer, Side::Give).ok_or(Refusal::Unknown)?;
+        let (get, got) = self.side(offer, Side::Get).ok_or(Refusal::Unknown)?;
+        let money = total_price(get, got) as i64 - total_price(give, given) as i64;
         Ok((money, total_weeks(get, got)))
     }
 

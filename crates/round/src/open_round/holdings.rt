@@ -13,22 +13,16 @@ use terms::holdings::{find_holding, units_held};
 fn put(holdings: &mut Table<Holding, 128>, h: Holding) -> Result<(), Refusal>
     ensures { Put holdings.old holdings.new h result }
 {
-    match find_holding(holdings.as_slice(), h.member, h.item) {
-        Some(k) => {
-            if h.units > 1000 {
-                return Err(Refusal::Bounds);
-            }
-            holdings.set(k, h)
-        }
-        None => {
-            if holdings.len() == 128 {
-                return Err(Refusal::Full);
-            }
-            if h.units > 1000 {
-                return Err(Refusal::Bounds);
-            }
-            holdings.push(h)
-        }
+    let found = find_holding(holdings.as_slice(), h.member, h.item);
+    if found.is_none() && holdings.len() == 128 {
+        return Err(Refusal::Full);
+    }
+    if h.units > 1000 {
+        return Err(Refusal::Bounds);
+    }
+    match found {
+        Some(k) => holdings.set(k, h),
+        None => holdings.push(h),
     }
 }
 
@@ -50,14 +44,12 @@ impl OpenRound {
         if self.is_strange(member, item) {
             return Err(Refusal::Unknown);
         }
-        put(
-            &mut self.holdings,
-            Holding {
-                member,
-                item,
-                units,
-            },
-        )
+        let h = Holding {
+            member,
+            item,
+            units,
+        };
+        put(&mut self.holdings, h)
     }
 
     // The units held, or that no entry exists.

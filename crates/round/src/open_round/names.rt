@@ -18,9 +18,7 @@ fn list<const N: usize>(names: &mut Table<Name, N>, s: &[u8]) -> Result<u32, Ref
     if n == N {
         return Err(Refusal::Full);
     }
-    let Some(name) = Name::spelt(s) else {
-        return Err(Refusal::Spelling);
-    };
+    let name = Name::spelt(s).ok_or(Refusal::Spelling)?;
     if is_among(names.as_slice(), s) {
         return Err(Refusal::Double);
     }

@@ -1,13 +1,14 @@
-ghost use Rattle.std.specs.Prelude.{◌≡◌, ◌+◌, ◌<◌, ◌≤◌, ◌⊎◌, map, length, Decides};
-ghost use Rattle.std.specs.Option.{option_map};
-ghost use Rattle.tables.specs.Refusals.{First, number};
+ghost use Rattle.std.specs.Prelude.{◌≡◌, ◌<◌, ◌⊎◌, map, length, Decides};
+ghost use Rattle.tables.specs.Refusals.{First, refusal};
 ghost use Rattle.book.specs.Books.{Twice, item_of};
-ghost use Rattle.round.specs.Rounds.{book};
 ghost use Rattle.terms.specs.Lines.{EitherSide, Out};
+ghost use Rattle.round.specs.Rounds.{book};
 ghost use Rattle.round.specs.Offering.{made, NamesUnknown, Overfull, offering, TakesOffer};
 ghost use Rattle.round.specs.Uses.{RoundLaw};
+ghost use Rattle.round.specs.Views.{seen};
 
 use super::super::entry::Entry;
+use super::super::offer_view::OfferView;
 use super::OpenRound;
 use book::line::Line;
 use tables::refusal::Refusal;
@@ -15,73 +16,76 @@ use terms::lines::{
     OutOfBounds, Overpriced, UnknownItem, either_side, is_doubled, is_loop, is_out,
 };
 
-fn has_limit_out(limit: u32, give: &[Line], get: &[Line]) -> bool
-    ensures { Decides result (Out limit ⊎ EitherSide (λ l. Out l.limit) give.now get.now) }
-{
-    is_out(limit) || either_side(&OutOfBounds, give, get)
-}
+impl OfferView<'_> {
+    fn has_limit_out(&self) -> bool
+        ensures { Decides result (Out self.now.limit ⊎ EitherSide (λ l. Out l.limit) self.now.give.now self.now.get.now) }
+    {
+        is_out(self.limit) || either_side(&OutOfBounds, self.give, self.get)
+    }
 
-fn has_double(give: &[Line], get: &[Line]) -> bool
-    ensures { Decides result (Twice (map item_of give.now) ⊎ Twice (map item_of get.now)) }
-{
-    is_doubled(give) || is_doubled(get)
-}
+    fn is_overpriced(&self) -> bool
+        ensures { Decides result (EitherSide (λ l. 1000000 < l.price) self.now.give.now self.now.get.now) }
+    {
+        either_side(&Overpriced, self.give, self.get)
+    }
 
-fn is_bare(give: &[Line], get: &[Line]) -> bool
-    ensures { Decides result ((length give.now ≡ 0) ⊎ (length get.now ≡ 0)) }
-{
-    give.is_empty() || get.is_empty()
-}
+    fn has_double(&self) -> bool
+        ensures { Decides result (Twice (map item_of self.now.give.now) ⊎ Twice (map item_of self.now.get.now)) }
+    {
+        is_doubled(self.give) || is_doubled(self.get)
+    }
 
-// Whether so many offers and lines leave no room for one offer more.
-fn is_overfull(offers: usize, lines: usize, gives: usize, gets: usize) -> bool
-    requires { lines ≤ 256 }
-    ensures { Decides result ((64 ≤ offers) ⊎ (256 < lines + (gives + gets))) }
-{
-    64 <= offers || 256 < gives || 256 < gets || 256 < lines + gives + gets
+    fn is_bare(&self) -> bool
+        ensures { Decides result ((length self.now.give.now ≡ 0) ⊎ (length self.now.get.now ≡ 0)) }
+    {
+        self.give.is_empty() || self.get.is_empty()
+    }
 }
 
 impl OpenRound {
-    fn lacks(&self, member: u32, give: &[Line], get: &[Line]) -> bool
-        ensures { Decides result (NamesUnknown (book self.now) (made member 0 give.now get.now)) }
+    // Whether an offer names a member or an item that there is not.
+    fn lacks(&self, offer: &OfferView<'_>) -> bool
+        ensures { Decides result (NamesUnknown (book self.now) (seen offer.now)) }
     {
         let members = self.members.len();
         let items = self.items.len();
-        members <= member as usize || either_side(&UnknownItem(items), give, get)
+        members <= offer.member as usize || either_side(&UnknownItem(items), offer.give, offer.get)
     }
 
-    fn overflows(&self, give: &[Line], get: &[Line]) -> bool
-        ensures { Decides result (Overfull (book self.now).offers give.now get.now) }
+    // Whether there is no room for an offer more, or for its lines.
+    fn overflows(&self, offer: &OfferView<'_>) -> bool
+        ensures { Decides result (Overfull (book self.now).offers offer.now.give.now offer.now.get.now) }
     {
-        is_overfull(self.offers.len(), self.lines.len(), give.len(), get.len())
+        let lines = self.lines.len() + offer.give.len() + offer.get.len();
+        64 <= self.offers.len() || 256 < lines
     }
 
-    // The first reason to refuse an offer.
-    fn fault(&self, member: u32, limit: u32, give: &[Line], get: &[Line]) -> Option<Refusal>
-        ensures { First (offering (book self.now) (made member limit give.now get.now)) (option_map number result) }
+    // Refuses an offer for the first reason that speaks against it.
+    fn test(&self, offer: &OfferView<'_>) -> Result<(), Refusal>
+        ensures { First (offering (book self.now) (seen offer.now)) (refusal result) }
     {
-        if self.lacks(member, give, get) {
-            return Some(Refusal::Unknown);
+        if self.lacks(offer) {
+            return Err(Refusal::Unknown);
         }
-        if self.overflows(give, get) {
-            return Some(Refusal::Full);
+        if self.overflows(offer) {
+            return Err(Refusal::Full);
         }
-        if has_limit_out(limit, give, get) {
-            return Some(Refusal::Bounds);
+        if offer.has_limit_out() {
+            return Err(Refusal::Bounds);
         }
-        if either_side(&Overpriced, give, get) {
-            return Some(Refusal::Price);
+        if offer.is_overpriced() {
+            return Err(Refusal::Price);
         }
-        if has_double(give, get) {
-            return Some(Refusal::Double);
+        if offer.has_double() {
+            return Err(Refusal::Double);
         }
-        if is_bare(give, get) {
-            return Some(Refusal::Bare);
+        if offer.is_bare() {
+            return Err(Refusal::Bare);
         }
-        if is_loop(give, get) {
-            return Some(Refusal::Loop);
+        if is_loop(offer.give, offer.get) {
+            return Err(Refusal::Loop);
         }
-        None
+        Ok(())
     }
 
     // A new offer, and its number.
@@ -95,9 +99,14 @@ impl OpenRound {
         ensures outcome { TakesOffer (book self.old) (book self.new) (made member limit give.now get.now) result }
         ensures law { RoundLaw }
     {
-        if let Some(refusal) = self.fault(member, limit, give, get) {
-            return Err(refusal);
-        }
+        let offer = OfferView {
+            member,
+            limit,
+            give,
+            get,
+        };
+        self.test(&offer)?;
+        // there is room for all of it
         let n = self.offers.len();
         let first = self.lines.len();
         let _ = self.lines.extend(give);

@@ -2,10 +2,7 @@ ghost use Rattle.std.specs.Prelude.{◌≡◌};
 ghost use Rattle.round.specs.Rounds.{book, fresh};
 ghost use Rattle.round.specs.Uses.{RoundLaw};
 
-use super::super::entry::Entry;
 use super::OpenRound;
-use book::holding::Holding;
-use book::line::Line;
 use tables::table::Table;
 use terms::name::Name;
 
@@ -21,23 +18,9 @@ impl OpenRound {
         OpenRound {
             items,
             members: Table::new(cash),
-            holdings: Table::new(Holding {
-                member: 0,
-                item: 0,
-                units: 0,
-            }),
-            offers: Table::new(Entry {
-                member: 0,
-                limit: 0,
-                first: 0,
-                gives: 0,
-                gets: 0,
-            }),
-            lines: Table::new(Line {
-                item: 0,
-                limit: 0,
-                price: 0,
-            }),
+            holdings: Table::default(),
+            offers: Table::default(),
+            lines: Table::default(),
         }
     }
 }

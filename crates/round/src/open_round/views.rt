@@ -1,7 +1,9 @@
-ghost use Rattle.std.specs.Prelude.{◌≡◌, map, length};
+ghost use Rattle.std.specs.Prelude.{◌≡◌, ◌+◌, ◌≤◌, length, MatchOption};
+ghost use Rattle.round.specs.Kept.{offer_of, Entered};
 ghost use Rattle.round.specs.Rounds.{book};
-ghost use Rattle.round.specs.Views.{ShowsOffer};
+ghost use Rattle.round.specs.Views.{seen, ShowsOffer};
 
+use super::super::entry::Entry;
 use super::super::offer_view::OfferView;
 use super::OpenRound;
 use book::holding::Holding;
@@ -36,16 +38,33 @@ impl OpenRound {
         self.offers.len() as u32
     }
 
+    // The entry of an offer.
+    pub(crate) fn entry(&self, offer: u32) -> Option<Entry>
+        ensures { MatchOption result (length (book self.now).offers ≤ offer) (λ e. Entered (book self.now) self.now.lines offer e) }
+    {
+        self.offers.get(offer as usize)
+    }
+
+    // The offer that an entry stands for.
+    pub(crate) fn show(&self, entry: Entry) -> OfferView<'_>
+        requires { entry.first + (entry.gives + entry.gets) ≤ length self.now.lines }
+        ensures { seen result ≡ offer_of self.now.lines entry }
+    {
+        let lines = &self.lines.as_slice()[entry.first as usize..];
+        let (give, rest) = lines.split_at(entry.gives as usize);
+        OfferView {
+            member: entry.member,
+            limit: entry.limit,
+            give,
+            get: &rest[..entry.gets as usize],
+        }
+    }
+
     // An offer, or nothing where there is none.
     pub fn offer_at(&self, offer: u32) -> Option<OfferView<'_>>
         ensures { ShowsOffer (book self.now) offer result }
     {
         let entry = self.entry(offer)?;
-        Some(OfferView {
-            member: entry.member,
-            limit: entry.limit,
-            give: self.give_lines(entry),
-            get: self.get_lines(entry),
-        })
+        Some(self.show(entry))
     }
 }

@@ -13,9 +13,7 @@ impl OpenRound {
         ensures law { RoundLaw }
     {
         let k = offer as usize;
-        let Some(entry) = self.offers.get(k) else {
-            return Err(Refusal::Unknown);
-        };
+        let entry = self.offers.get(k).ok_or(Refusal::Unknown)?;
         if entry.limit == 0 {
             return Err(Refusal::Withdrawn);
         }

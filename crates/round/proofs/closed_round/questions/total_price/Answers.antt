@@ -1,21 +1,22 @@
-use Rattle.std.proofs.Common.{ap, ◌∙◌, arith}
-use Rattle.std.proofs.lemmas.List.{take_all}
-use Rattle.flow.specs.Arcs.{flow_of}
-use Rattle.book.specs.Allotments.{price_of}
-use Rattle.round.proofs.Sides.{price_more}
+use Rattle.std.proofs.Common.{◌*◌, ◌^◌, ◌≤◌, sym, ◌∙◌, subst, rules, tests, arith}
+use Rattle.std.specs.List.{zip}
+use Rattle.std.proofs.lemmas.Iterator.{YieldsList-from_slice, YieldsList-from_map, YieldsList-from_zip}
+use Rattle.std.proofs.lemmas.Iterator.Consumers.{YieldsList-at, sum_by_from_yields_List, fits_by_from_yields_list}
+use Rattle.round.proofs.Totals.{price_sum, price_small}
 use Rattle.round.proofs.closed_round.questions.total_price.Goals as goal
 
-pub overflow_add-sum : goal.overflow_add-sum
-overflow_add-sum c =
-    let more = price_more c.args.lines.now c.args.arcs.now c.requires c.loop-i.i c.loop-i.sum _ c.loop-i-test.true c.from.result c.from-in-loop-i.result c.from.ensures c.from-in-loop-i.ensures c.loop-i.invariant in
-    omega (arith, more.1, c.requires.few)
-
-pub loop-i-preserved : goal.loop-i-preserved
-loop-i-preserved c =
-    price_more c.args.lines.now c.args.arcs.now c.requires c.loop-i.i c.loop-i.sum _ c.loop-i-test.true c.from.result c.from-in-loop-i.result c.from.ensures c.from-in-loop-i.ensures c.loop-i.invariant
+pub sum-requires-clause-fits : goal.sum-requires-clause-fits
+sum-requires-clause-fits c =
+    let ls = c.args.lines.now in
+    let arcs = c.args.arcs.now in
+    fits_by_from_yields_list (λ p. p.0.price * p.1.flow) (zip ls arcs) c.map.result (2 ^ 64)
+    (YieldsList-from_map _ (λ p. p.0.price * p.1.flow) (YieldsList-at c.map.ensures.source (YieldsList-from_zip (YieldsList-from_slice ls (cc)) (YieldsList-from_slice arcs (cc)))) c.map.ensures.closure (λ x r q k. search (rules, tests)))
+    (omega (arith, price_sum ls arcs c.requires, price_small ls arcs c.requires))
 
 pub returns : goal.returns
-returns c = record {
-  sum = c.loop-i.invariant.0 ∙ ap (λ ls. price_of ls (flow_of c.args.arcs.now)) (take_all c.loop-i.i c.args.lines.now (omega arith));
-  bound = omega (arith, c.loop-i.invariant.1, c.requires.few);
-}
+returns c =
+    let ls = c.args.lines.now in
+    let arcs = c.args.arcs.now in
+    let e = sum_by_from_yields_List (λ p. p.0.price * p.1.flow) (zip ls arcs) c.map.result c.sum.result c.sum.ensures.ran
+    (YieldsList-from_map _ (λ p. p.0.price * p.1.flow) (YieldsList-at c.map.ensures.source (YieldsList-from_zip (YieldsList-from_slice ls (cc)) (YieldsList-from_slice arcs (cc)))) c.map.ensures.closure (λ x r q k. search (rules, tests))) ∙ price_sum ls arcs c.requires in
+    record { sum = e; bound = subst (λ n. n ≤ 256000000000) (sym e) (price_small ls arcs c.requires) }

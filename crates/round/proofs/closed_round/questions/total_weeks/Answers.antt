@@ -1,22 +1,22 @@
-use Rattle.std.proofs.Common.{ap, ◌∙◌, arith}
-use Rattle.std.proofs.lemmas.List.{take_all}
-use Rattle.flow.specs.Arcs.{flow_of}
-use Rattle.round.specs.Questions.{weeks_on}
-use Rattle.round.proofs.Sides.{weeks_more, weeks_same}
+use Rattle.std.proofs.Common.{◌^◌, not, eqb, ◌∙◌, rules, tests, arith}
+use Rattle.std.specs.List.{zip, filter}
+use Rattle.std.proofs.lemmas.Iterator.{YieldsList-from_slice, YieldsList-from_map, YieldsList-from_zip}
+use Rattle.std.proofs.lemmas.Iterator.Consumers.{YieldsList-at, YieldsList-from_filter, sum_by_from_yields_List, fits_by_from_yields_list}
+use Rattle.round.proofs.Totals.{weeks_sum, weeks_small}
 use Rattle.round.proofs.closed_round.questions.total_weeks.Goals as goal
-use Rattle.round.proofs.closed_round.questions.total_weeks.Goals.{then-line-ne0, else-line-ne0}
 
-pub overflow_add-sum : goal.overflow_add-sum
-overflow_add-sum c = omega (arith, c.loop-i.invariant.1, c.requires.few, (c.requires.small c.loop-i.i (record { item = 0; limit = 0; price = 0 }) c.loop-i-test.true).1)
-
-pub loop-i-preserved : goal.loop-i-preserved
-loop-i-preserved c =
+pub sum-requires-clause-fits : goal.sum-requires-clause-fits
+sum-requires-clause-fits c =
     let ls = c.args.lines.now in
     let arcs = c.args.arcs.now in
-    elim c.if-line-ne0.branch [
-      | then-line-ne0 w ↦ weeks_more ls arcs c.requires c.loop-i.i c.loop-i.sum _ c.loop-i-test.true c.if-line-ne0.sum w.sum-is w.if-line-ne0.true c.loop-i.invariant
-      | else-line-ne0 w ↦ weeks_same ls arcs c.requires c.loop-i.i c.loop-i.sum _ c.loop-i-test.true c.if-line-ne0.sum w.sum-is w.if-line-ne0.false c.loop-i.invariant
-    ]
+    fits_by_from_yields_list (λ p. p.1.flow) (filter (λ p. not (eqb p.0.item 0)) (zip ls arcs)) c.map.result (2 ^ 32)
+    (YieldsList-from_map _ (λ p. p.1.flow) (YieldsList-at c.map.ensures.source (YieldsList-from_filter _ (λ p. not (eqb p.0.item 0)) (YieldsList-at c.filter.ensures.source (YieldsList-from_zip (YieldsList-from_slice ls (cc)) (YieldsList-from_slice arcs (cc)))) c.filter.ensures.closure (λ x r q k. search (rules, tests)))) c.map.ensures.closure (λ x r q k. search (rules, tests)))
+    (omega (arith, weeks_sum ls arcs c.requires, weeks_small ls arcs c.requires))
 
 pub returns : goal.returns
-returns c = c.loop-i.invariant.0 ∙ ap (λ ls. weeks_on ls (flow_of c.args.arcs.now)) (take_all c.loop-i.i c.args.lines.now (omega arith))
+returns c =
+    let ls = c.args.lines.now in
+    let arcs = c.args.arcs.now in
+    sum_by_from_yields_List (λ p. p.1.flow) (filter (λ p. not (eqb p.0.item 0)) (zip ls arcs)) c.map.result c.sum.result c.sum.ensures.ran
+    (YieldsList-from_map _ (λ p. p.1.flow) (YieldsList-at c.map.ensures.source (YieldsList-from_filter _ (λ p. not (eqb p.0.item 0)) (YieldsList-at c.filter.ensures.source (YieldsList-from_zip (YieldsList-from_slice ls (cc)) (YieldsList-from_slice arcs (cc)))) c.filter.ensures.closure (λ x r q k. search (rules, tests)))) c.map.ensures.closure (λ x r q k. search (rules, tests)))
+    ∙ weeks_sum ls arcs c.requires

@@ -3,7 +3,7 @@ use mathlib.Core.Logic.{∥∥₁_map}
 use Rattle.book.specs.Arcs.{nodes}
 use Rattle.round.specs.Carried.{Carries}
 use Rattle.round.specs.Rounds.{book}
-use Rattle.round.specs.Carrying.{carries_none}
+use Rattle.round.proofs.Pushed.{carries_none}
 use Rattle.round.proofs.Standing.{law_holds}
 use Rattle.round.proofs.open_round.OpenRound.close.Goals as goal
 

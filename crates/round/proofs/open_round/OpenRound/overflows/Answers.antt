@@ -1,13 +1,14 @@
 use Rattle.std.proofs.Common.{inl, inr, arith}
 use Rattle.std.proofs.lemmas.List.{length-map}
+use Rattle.std.proofs.lemmas.Bool.{lt-ltb, ltb-true}
 use Rattle.round.specs.Kept.{offer_of}
 use Rattle.round.proofs.Rows.{count_rows}
 use Rattle.round.proofs.open_round.OpenRound.overflows.Goals as goal
 
-pub returns : goal.returns
-returns c =
+pub returns-else-len-ge64 : goal.returns-else-len-ge64
+returns-else-len-ge64 c =
     let es = c.args.self.now.offers in
     let ls = c.args.self.now.lines in
     let lo = length-map es (offer_of ls) in
     let lc = count_rows 0 es ls c.args.self.now.rows in
-    (λ t. elim (c.is_overfull.ensures.0 t) [ inl p ↦ inl (omega arith) | inr p ↦ inr (omega arith) ], λ w. c.is_overfull.ensures.1 (elim w [ inl p ↦ inl (omega arith) | inr p ↦ inr (omega arith) ]))
+    (λ t. let l = ltb-true _ _ t in inr (omega arith), λ w. lt-ltb _ _ (elim w [ inl p ↦ absurd (omega arith) | inr p ↦ omega arith ]))

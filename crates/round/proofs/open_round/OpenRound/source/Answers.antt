@@ -1,26 +1,17 @@
-use Rattle.std.proofs.Common.{◌≡◌, ◌+◌, map, length, ap, ◌∙◌, arith}
-use Rattle.std.proofs.lemmas.List.{length-map}
-use Rattle.tables.proofs.Entries.{length_entries}
+use Rattle.std.proofs.Common.{◌≡◌, ℕ, ◌<◌, List, length, Some, ap, arith}
 use Rattle.book.specs.Books.{spot_of}
-use Rattle.book.specs.Arcs.{source, give_capacity}
-use Rattle.terms.specs.Names.{letters}
+use Rattle.book.specs.declared.holding.Holding.{Holding}
 use Rattle.terms.proofs.Spots.{spot_some}
+use Rattle.round.specs.declared.open_round.OpenRound.{OpenRound}
+use Rattle.round.proofs.Sounds.{few_holdings}
 use Rattle.round.proofs.open_round.OpenRound.source.Goals as goal
 
+-- a holding that was found is one of 128
+near : (r : OpenRound) (hs : List Holding) (m i k : ℕ) → hs ≡ r.holdings → Some k ≡ spot_of hs m i → k < 128
+near r hs m i k e found = omega (arith, (spot_some hs m i k found).0, ap length e, few_holdings r)
+
 pub overflow_add-result : goal.overflow_add-result
-overflow_add-result c =
-    let found = spot_some c.as_slice.result.now c.args.member c.args.l.item c.in-Some.k c.in-Some.ensures in
-    omega (arith, found.0, ap length c.as_slice.ensures, length_entries c.args.self.now.holdings)
+overflow_add-result c = let few : c.in-Some.k < 128 = near c.args.self.now _ _ _ _ c.as_slice.ensures c.in-Some.ensures in omega arith
 
 pub overflow_cast-result : goal.overflow_cast-result
-overflow_cast-result c =
-    let found = spot_some c.as_slice.result.now c.args.member c.args.l.item c.in-Some.k c.in-Some.ensures in
-    omega (arith, found.0, ap length c.as_slice.ensures, length_entries c.args.self.now.holdings)
-
-pub returns-in-Some : goal.returns-in-Some
-returns-in-Some c =
-    let l = c.args.l in
-    let items = length-map c.args.self.now.items letters in
-    let e = c.in-Some.ensures ∙ ap (λ hs. spot_of hs c.args.member l.item) c.as_slice.ensures in
-    let sum : c.len.result + c.in-Some.k ≡ length (map letters c.args.self.now.items) + c.in-Some.k = omega arith in
-    record { node = sum ∙ ap (λ spot. source spot (length (map letters c.args.self.now.items)) l.item) e; capacity = ap (λ spot. give_capacity spot l) e }
+overflow_cast-result c = let few : c.in-Some.k < 128 = near c.args.self.now _ _ _ _ c.as_slice.ensures c.in-Some.ensures in omega arith

@@ -13,20 +13,20 @@ use super::OpenRound;
 use book::line::Line;
 use tables::refusal::Refusal;
 use terms::lines::{
-    OutOfBounds, Overpriced, UnknownItem, either_side, is_doubled, is_loop, is_out,
+    has_line_out, has_unknown_item, is_doubled, is_loop, is_out, is_overpriced,
 };
 
 impl OfferView<'_> {
     fn has_limit_out(&self) -> bool
         ensures { Decides result (Out self.now.limit ⊎ EitherSide (λ l. Out l.limit) self.now.give.now self.now.get.now) }
     {
-        is_out(self.limit) || either_side(&OutOfBounds, self.give, self.get)
+        is_out(self.limit) || has_line_out(self.give, self.get)
     }
 
     fn is_overpriced(&self) -> bool
         ensures { Decides result (EitherSide (λ l. 1000000 < l.price) self.now.give.now self.now.get.now) }
     {
-        either_side(&Overpriced, self.give, self.get)
+        is_overpriced(self.give, self.get)
     }
 
     fn has_double(&self) -> bool
@@ -49,7 +49,7 @@ impl OpenRound {
     {
         let members = self.members.len();
         let items = self.items.len();
-        members <= offer.member as usize || either_side(&UnknownItem(items), offer.give, offer.get)
+        members <= offer.member as usize || has_unknown_item(items, offer.give, offer.get)
     }
 
     // Whether there is no room for an offer more, or for its lines.

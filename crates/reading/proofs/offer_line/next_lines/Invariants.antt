@@ -1,7 +1,0 @@
-use Rattle.std.proofs.Common.{◌≡◌, ℕ, ◌+◌}
-use Rattle.tables.specs.Tables.{entries}
-use Rattle.reading.specs.Offers.{LinesRead}
-use Rattle.reading.proofs.offer_line.next_lines.Given as goal
-
-abbrev pub invariant-loop : goal.invariant-loop
-invariant-loop l = (m : ℕ) → l.counter + m ≡ l.n → LinesRead l.items l.give l.n m (entries l.lines) (entries l.initial.units) (entries l.units) l.initial.reader l.reader

@@ -1,90 +1,125 @@
--- Lines of one sort, one after the other.
-use Rattle.std.proofs.Common.{◌≡◌, ℕ, zero, suc, ◌+◌, ◌-◌, ◌<◌, ◌≤◌, List, [], ◌∷◌, ◌++◌, length, replicate, Ok, Err, Result, sym, refl, ap, subst, arith, MatchResult}
-use Rattle.text.specs.Readers.{Ended}
+-- Entries of one sort, one after the other, and the section that lists them.
+use Rattle.std.proofs.Common.{◌≡◌, ℕ, suc, ◌+◌, ◌-◌, ◌<◌, ◌≤◌, List, [], ◌∷◌, ◌++◌, length, replicate, IfOk, Ok, Err, codes, Result, sym, refl, ap, ◌∙◌, subst, append_assoc, arith, MatchResult}
+use Rattle.std.proofs.lemmas.List.{length_push, replicate-append-replicate}
+use Rattle.std.proofs.lemmas.Result.{IfOk-at_ok}
+use Rattle.tables.specs.Refusals.{First, refusal}
+use Rattle.tables.specs.declared.refusal.Refusal.{Refusal}
+use Rattle.text.specs.Faults.{result_at}
+use Rattle.text.specs.Readers.{Advanced, Ended}
 use Rattle.text.specs.declared.fault.Fault.{Fault}
 use Rattle.text.specs.declared.reader.Reader.{Reader}
-use Rattle.book.specs.Books.{Book}
-use Rattle.layout.specs.Layout.{Slot}
-use Rattle.reading.specs.Reading.{Onward, Stops, ItemsOnly, MembersOnly, HoldingsOnly, Gained, GainedOnly, Ends}
-use Rattle.layout.specs.Records.{Contents, book_of}
+use Rattle.text.proofs.Faults.{ok_from_at, err_from_at}
+use Rattle.text.specs.declared.section.Section.TheVariants.{Items}
+use Rattle.layout.specs.Layout.{Slot, head, item, Says, rules, calls_for, with_line, nothing}
+use Rattle.layout.specs.Records.{Contents}
 use Rattle.layout.specs.Runs.{reads, ComesTo, ends, trails}
+use Rattle.reading.specs.Drafts.{so_far, Read, Halts, Gains, ReadsSection, Begins}
+use Rattle.reading.specs.Entries.{section_of, slot_of, many, without}
+use Rattle.reading.specs.Kinds.{of_kind}
+use Rattle.reading.specs.Reading.{Onward, Stops, Ends}
+use Rattle.reading.specs.declared.draft.Draft.{Draft}
+use Rattle.reading.specs.declared.entry.Entry.{Entry}
+use Rattle.reading.specs.declared.entry.Entry.TheVariants.{Item, Member, Holding, Offer, Level}
+use Rattle.reading.specs.declared.kind.Kind.{Kind}
+use Rattle.reading.proofs.Steps.{Lies, sound, faulty}
 
--- k of n lines are read, and each has added one to the size, which n more keep within its most
-abbrev pub Gaining : (Contents → Contents → Type 0) → Slot → (Contents → ℕ) → ℕ → ℕ → ℕ → Reader → Reader → Book → Book → Type 0
-Gaining Stays s size most n k before after start held = (x : Contents) (due : List Slot) → book_of x ≡ start → size x + n ≤ most → (m : ℕ) → k + m ≡ n → (g : GainedOnly Stays (replicate n s ++ due) x before (replicate m s ++ due) after held) × (size g.contents ≡ size x + k)
+-- n entries were read
+abbrev pub Gained : Entry → ℕ → Draft → Draft → Type 0
+Gained e n a b = Read e (replicate n (slot_of e)) a b × (many e (so_far b) ≡ many e (so_far a) + n)
 
-module _ (Stays : Contents → Contents → Type 0) (s : Slot) (size : Contents → ℕ) (most n : ℕ) where
-  pub begin : (before : Reader) (start : Book) → ((y : Contents) → Stays y y) → Gaining Stays s size most n 0 before before start start
-  begin before start itself x due e le m q =
-      let same : m ≡ n = omega arith in (
-        record {
-          contents = x;
-          onward = subst (λ k. Onward (replicate n s ++ due) x before (replicate k s ++ due) x before) (sym same) (λ o h. h);
-          holds = e;
-          stays = itself x;
-        },
-        omega arith,
-      )
+pub none_yet : (e : Entry) (a : Draft) → Gained e 0 a a
+none_yet e a = (record { onward = λ due o h. h; only = refl }, omega arith)
 
-  -- one line more
-  pub again : (k : ℕ) {before middle after : Reader} {start held more : Book} (next : Contents → Contents) → ((x y : Contents) → Stays x y → Stays x (next y)) → ((y : Contents) → size (next y) ≡ size y + 1) → Gaining Stays s size most n k before middle start held → k < n → ((y : Contents) → book_of y ≡ held → size y < most → ((due : List Slot) → Onward (s ∷ due) y middle due (next y) after) × (book_of (next y) ≡ more)) → Gaining Stays s size most n (k + 1) before after start more
-  again k next stay grows g lt step x due e le m q =
-      let h = g x due e le (suc m) (omega arith) in
-      let y = h.0.contents in
-      let t = step y h.0.holds (omega (arith, h.1)) in (
-        record {
-          contents = next y;
-          onward = λ o r. h.0.onward o (t.0 (replicate m s ++ due) o r);
-          holds = t.1;
-          stays = stay x y h.0.stays;
-        },
-        omega (arith, grows y, h.1),
-      )
+-- one entry was read, and what is held besides it
+pub one_more : (e : Entry) (a b : Draft) (y : Contents) → ((due : List Slot) → Onward (slot_of e ∷ due) (so_far a) a.reader due y b.reader) → y ≡ so_far b → without e y ≡ without e (so_far a) → many e y ≡ many e (so_far a) + 1 → Gained e 1 a b
+one_more e a b y on held only more = (
+  record {
+    onward = λ due. subst (λ z. Onward (slot_of e ∷ due) (so_far a) a.reader due z b.reader) held (on due);
+    only = subst (λ z. without e z ≡ without e (so_far a)) held only;
+  },
+  subst (λ z. many e z ≡ many e (so_far a) + 1) held more,
+)
 
-  -- the text is refused at the next line
-  pub stopped : (k : ℕ) {before middle : Reader} {start held : Book} (f : Fault) → Gaining Stays s size most n k before middle start held → k < n → ((y : Contents) → book_of y ≡ held → size y < most → (due : List Slot) → Stops (s ∷ due) y middle f) → (x : Contents) (due : List Slot) → book_of x ≡ start → size x + n ≤ most → Stops (replicate n s ++ due) x before f
-  stopped k f g lt stop x due e le =
-      let m = n - (k + 1) in
-      let h = g x due e le (suc m) (omega arith) in
-      h.0.onward _ (stop h.0.contents h.0.holds (omega (arith, h.1)) (replicate m s ++ due))
+-- what is held besides the line of an entry
+entered : (e : Entry) (c : Says (slot_of e)) (x : Contents) → (without e (with_line (slot_of e) c x) ≡ without e x) × (many e (with_line (slot_of e) c x) ≡ many e x + 1)
+entered Item c x = (refl, omega (arith, length_push x.items c))
+entered Member c x = (refl, omega (arith, length_push x.members c))
+entered Holding c x = (refl, omega (arith, length_push x.holdings c))
+entered Offer c x = (refl, omega (arith, length_push x.offers (record { member = c.member; limit = c.limit; give = []; get = [] })))
+entered Level c x = (refl, omega (arith, length_push x.levels c))
 
-  -- all are read
-  pub gained : (k : ℕ) {before after : Reader} {start held : Book} → Gaining Stays s size most n k before after start held → k ≡ n → (x : Contents) (due : List Slot) → book_of x ≡ start → size x + n ≤ most → GainedOnly Stays (replicate n s ++ due) x before due after held
-  gained k g q x due e le = (g x due e le 0 (omega arith)).0
+-- an entry of one line, where a call that was made with what the line says was accepted
+pub accepted : (e : Entry) (a b : Draft) {V Y : Type 0} (Is : List ℕ → V → Type 0) {v : V} (c : Says (slot_of e)) → calls_for (slot_of e) c ≡ [] → Advanced Is a.reader b.reader v → Lies (slot_of e) (so_far a) Is v c → (line : ℕ) (r : Result Y Refusal) → First (rules (slot_of e) (so_far a) c) (refusal r) → IfOk r (λ _. with_line (slot_of e) c (so_far a) ≡ so_far b) → (y : Y) → Ok y ≡ result_at line r → Gained e 1 a b
+accepted e a b Is c bare adv lies line r first held y q =
+    let x = so_far a in
+    let done = ok_from_at line r y q in
+    let none = subst (λ w. First (rules (slot_of e) x c) (refusal w)) done first in
+    one_more e a b (with_line (slot_of e) c x) (λ due. subst (λ l. Onward (slot_of e ∷ due) x a.reader (l ++ due) (with_line (slot_of e) c x) b.reader) bare (sound (slot_of e) x Is c adv lies.spells lies.fits none due)) (IfOk-at_ok (λ _. with_line (slot_of e) c x ≡ so_far b) done held) (entered e c x).0 (entered e c x).1
 
-pub one_longer : {X : Type 0} (xs : List X) (x : X) → length (xs ++ x ∷ []) ≡ length xs + 1
-one_longer [] x = refl
-one_longer (y ∷ ys) x = omega (arith, one_longer ys x)
+-- where it was refused, the text is
+pub refused : (e : Entry) (a : Draft) {V Y : Type 0} (Is : List ℕ → V → Type 0) {after : Reader} {v : V} (c : Says (slot_of e)) → Advanced Is a.reader after v → Lies (slot_of e) (so_far a) Is v c → (line : ℕ) → line ≡ a.reader.line → (r : Result Y Refusal) → First (rules (slot_of e) (so_far a) c) (refusal r) → (f : Fault) → Err f ≡ result_at line r → Halts (slot_of e ∷ []) a f
+refused e a Is c adv lies line n r first f q due =
+    let d = err_from_at line r f q in
+    subst (λ g. Stops (slot_of e ∷ due) (so_far a) a.reader g) (sym d.1) (faulty (slot_of e) (so_far a) Is c adv lies.spells lies.fits line n f.refusal (subst (λ w. First (rules (slot_of e) (so_far a) c) (refusal w)) d.0 first) due)
 
--- lines after others
-pub past : (Stays : Contents → Contents → Type 0) (due next last : List Slot) (x y : Contents) (before middle after : Reader) (held : Book) → Onward due x before next y middle → ((z : Contents) → Stays y z → Stays x z) → (r : Result (Unit {0}) Fault) → MatchResult r (λ _. GainedOnly Stays next y middle last after held) (λ f. Stops next y middle f) → MatchResult r (λ _. GainedOnly Stays due x before last after held) (λ f. Stops due x before f)
-past Stays due next last x y before middle after held on stay (Ok u) g = record { contents = g.contents; onward = λ o h. on o (g.onward o h); holds = g.holds; stays = stay g.contents g.stays }
-past Stays due next last x y before middle after held on stay (Err f) g = on _ g
+-- what its outcome is, with the line's number beside the refusal
+pub told : (e : Entry) (a b : Draft) {V Y : Type 0} (Is : List ℕ → V → Type 0) {v : V} (c : Says (slot_of e)) → calls_for (slot_of e) c ≡ [] → Advanced Is a.reader b.reader v → Lies (slot_of e) (so_far a) Is v c → (line : ℕ) → line ≡ a.reader.line → (r : Result Y Refusal) → First (rules (slot_of e) (so_far a) c) (refusal r) → IfOk r (λ _. with_line (slot_of e) c (so_far a) ≡ so_far b) → (o : Result Y Fault) → o ≡ result_at line r → MatchResult o (λ _. Gained e 1 a b) (λ f. Halts (slot_of e ∷ []) a f)
+told e a b Is c bare adv lies line n r first held (Ok y) q = accepted e a b Is c bare adv lies line r first held y q
+told e a b Is c bare adv lies line n r first held (Err f) q = refused e a Is c adv lies line n r first f q
 
--- of what stays the kind, the offers and the levels
-pub plain : {Stays : Contents → Contents → Type 0} {due last : List Slot} {x : Contents} {before after : Reader} {held : Book} → ((y : Contents) → Stays x y → HoldingsOnly x y) → GainedOnly Stays due x before last after held → Gained due x before last after held
-plain stay g = let h = stay g.contents g.stays in record { contents = g.contents; onward = g.onward; holds = g.holds; kind = h.kind; offers = h.offers; levels = h.levels }
+-- an entry after others
+pub again : (e : Entry) (k : ℕ) (a b d : Draft) → Gained e k a b → Gained e 1 b d → Gained e (k + 1) a d
+again e k a b d (f, m) (g, n) =
+    let s = slot_of e in (
+      record {
+        onward = λ due. subst (λ l. Onward l (so_far a) a.reader due (so_far d) d.reader) (sym (append_assoc (replicate k s) (s ∷ []) due) ∙ ap (λ l. l ++ due) (replicate-append-replicate k 1 s)) (λ o h. f.onward (s ∷ due) o (g.onward due o h));
+        only = g.only ∙ f.only;
+      },
+      omega arith,
+    )
 
-pub taken : (Stays : Contents → Contents → Type 0) (due last : List Slot) (x : Contents) (before after : Reader) (held : Book) → ((y : Contents) → Stays x y → HoldingsOnly x y) → (r : Result (Unit {0}) Fault) → MatchResult r (λ _. GainedOnly Stays due x before last after held) (λ f. Stops due x before f) → MatchResult r (λ _. Gained due x before last after held) (λ f. Stops due x before f)
-taken Stays due last x before after held stay (Ok u) g = plain stay g
-taken Stays due last x before after held stay (Err f) g = g
+-- the text is refused in the next
+pub halted : (e : Entry) (n k : ℕ) (a b : Draft) (f : Fault) → Gained e k a b → k < n → Halts (slot_of e ∷ []) b f → Halts (replicate n (slot_of e)) a f
+halted e n k a b f (r, _) lt h due =
+    let s = slot_of e in
+    let m = n - (k + 1) in
+    let all : k + suc m ≡ n = omega arith in
+    subst (λ l. Stops l (so_far a) a.reader f) (sym (append_assoc (replicate k s) (replicate (suc m) s) due) ∙ ap (λ l. l ++ due) (replicate-append-replicate k (suc m) s) ∙ ap (λ j. replicate j s ++ due) all) (r.onward (replicate (suc m) s ++ due) _ (h (replicate m s ++ due)))
 
--- the first of some lines
-pub first_due : (s : Slot) (n : ℕ) → 1 ≤ n → replicate n s ≡ s ∷ replicate (n - 1) s
-first_due s zero h = absurd (omega arith)
-first_due s (suc n) h = let e : n ≡ suc n - 1 = omega arith in ap (λ k. s ∷ replicate k s) e
+-- the head of a section calls for its entries, and holds nothing itself
+pub headed : (e : Entry) (n : ℕ) (x : Contents) (before after : Reader) → ((due : List Slot) → Onward (head (section_of e) ∷ due) x before (calls_for (head (section_of e)) n ++ due) (with_line (head (section_of e)) n x) after) → (due : List Slot) → Onward (head (section_of e) ∷ due) x before (replicate n (slot_of e) ++ due) x after
+headed Item n x before after h = h
+headed Member n x before after h = h
+headed Holding n x before after h = h
+headed Offer n x before after h = h
+headed Level n x before after h = h
+
+-- a section, its head and its entries
+pub listed : (e : Entry) (n : ℕ) (a b d : Draft) (r : Result (Unit {0}) Fault) → so_far b ≡ so_far a → ((due : List Slot) → Onward (head (section_of e) ∷ due) (so_far a) a.reader (replicate n (slot_of e) ++ due) (so_far b) b.reader) → Gains e n b d r → ReadsSection e a d r
+listed e n a b d (Ok u) same on g = record { onward = λ due o h. on due o (g.0.onward due o h); only = g.0.only ∙ ap (without e) same }
+listed e n a b d (Err f) same on h = λ due. on due _ (h due)
+
+-- the section of the items, which begins a draft
+module _ (k : Kind) (n : ℕ) (some : 1 ≤ n) (before middle : Reader) (on : (due : List Slot) → Onward (head Items ∷ due) (of_kind k nothing) before (replicate n item ++ due) (of_kind k nothing) middle) where
+  first : (due : List Slot) → Onward (head Items ∷ due) (of_kind k nothing) before (item ∷ (replicate (n - 1) item ++ due)) (of_kind k nothing) middle
+  first due = let e : suc (n - 1) ≡ n = omega arith in subst (λ m. Onward (head Items ∷ due) (of_kind k nothing) before (replicate m item ++ due) (of_kind k nothing) middle) (sym e) (on due)
+
+  -- the first name is not cash
+  pub no_cash : (f : Fault) → ((due : List Slot) → Stops (item ∷ due) (of_kind k nothing) middle f) → (due : List Slot) → Stops (head Items ∷ due) (of_kind k nothing) before f
+  no_cash f stop due = first due _ (stop (replicate (n - 1) item ++ due))
+
+  -- it is, and the draft begins with it
+  module _ (y : Contents) (later : Reader) (cash : (due : List Slot) → Onward (item ∷ due) (of_kind k nothing) middle due (with_line item (codes "cash") (of_kind k nothing)) later) (fresh : y ≡ with_line item (codes "cash") (of_kind k nothing)) where
+    to_draft : (due : List Slot) → Onward (head Items ∷ due) (of_kind k nothing) before (replicate (n - 1) item ++ due) y later
+    to_draft due = subst (λ x. Onward (head Items ∷ due) (of_kind k nothing) before (replicate (n - 1) item ++ due) x later) (sym fresh) (λ o h. first due o (cash (replicate (n - 1) item ++ due) o h))
+
+    pub not_begun : (f : Fault) → ((due : List Slot) → Stops (replicate (n - 1) item ++ due) y later f) → (due : List Slot) → Stops (head Items ∷ due) (of_kind k nothing) before f
+    not_begun f h due = to_draft due _ (h due)
+
+    pub begun : (d : Draft) → ((due : List Slot) → Onward (replicate (n - 1) item ++ due) y later due (so_far d) d.reader) → without Item (so_far d) ≡ without Item y → Begins before (of_kind k nothing) (Ok d)
+    begun d g only = (λ due o h. to_draft due o (g due o h), only ∙ ap (without Item) fresh)
 
 -- after the last line
 pub at_end : (reader : Reader) (r : Result (Unit {0}) Fault) → Ended reader r → (x : Contents) → Ends x reader r
 at_end reader (Ok u) e x = subst (λ t. ComesTo [] x t reader.line (reads x)) (sym e) ends
 at_end reader (Err f) h x = subst (λ g. Stops [] x reader g) (sym h.0) (trails h.1)
-
--- what stays, stays over more lines
-pub items_itself : (y : Contents) → ItemsOnly y y
-items_itself y = record { kind = refl; members = refl; holdings = refl; offers = refl; levels = refl }
-
-pub members_itself : (y : Contents) → MembersOnly y y
-members_itself y = record { kind = refl; holdings = refl; offers = refl; levels = refl }
-
-pub holdings_itself : (y : Contents) → HoldingsOnly y y
-holdings_itself y = record { kind = refl; offers = refl; levels = refl }

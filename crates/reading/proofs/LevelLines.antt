@@ -1,35 +1,23 @@
 -- The lines of levels.
-use Rattle.std.proofs.Common.{◌≡◌, ℕ, suc, ◌+◌, ◌-◌, ◌<◌, true, false, leb, ◌⊎◌, List, [], ◌∷◌, ◌++◌, map, length, get_or, replicate, ℤ, pos, Some, None, sym, refl, ap, ◌∙◌, subst, inl, inr, arith}
-use Rattle.std.proofs.lemmas.List.{map_push, nil_from_length}
-use Rattle.std.proofs.lemmas.Bool.{leb-true, leb-false}
-use Rattle.tables.specs.Refusals.{First}
+use Rattle.std.proofs.Common.{◌≡◌, ℕ, List, [], ◌∷◌, ◌++◌, map, length, get_or, ℤ, pos, Some, None, Ok, Err, Result, sym, refl, ap, ◌∙◌, subst, inr, arith}
+use Rattle.std.proofs.lemmas.List.{map_push}
+use Rattle.tables.specs.Refusals.{number, First}
+use Rattle.tables.specs.declared.refusal.Refusal.{Refusal}
 use Rattle.tables.proofs.Firsts.{here, next}
 use Rattle.text.specs.Numbers.{signed}
 use Rattle.text.specs.Readers.{Advanced}
 use Rattle.text.specs.Rows.{SpellsRow}
-use Rattle.text.specs.declared.fault.Fault.{Fault}
 use Rattle.text.specs.declared.reader.Reader.{Reader}
-use Rattle.text.specs.declared.section.Section.TheVariants.{Levels}
-use Rattle.book.specs.Arcs.{nodes}
-use Rattle.layout.specs.Layout.{Slot, level, Short, Counts, spell, Fits, rules, with_line}
-use Rattle.layout.specs.Records.{Kind, by_money, by_money_then_weeks, Contents, book_of, parts, level_size}
+use Rattle.book.specs.Books.{Book}
+use Rattle.layout.specs.Layout.{level, Short, spell, Fits, rules, with_line}
+use Rattle.layout.specs.Records.{Kind, by_money, by_money_then_weeks, Contents, parts}
+use Rattle.reading.specs.Held.{held}
 use Rattle.reading.specs.Kinds.{kind as kind_as}
-use Rattle.reading.specs.Levels.{numbers, with_levels}
-use Rattle.reading.specs.Reading.{Onward, Stops}
+use Rattle.reading.specs.Levels.{numbers, with_levels, LevelTested}
 use Rattle.reading.specs.declared.kind.Kind.{Kind as Told}
 use Rattle.reading.specs.declared.kind.Kind.TheVariants.{Money, MoneyThenWeeks}
 use Rattle.reading.specs.declared.level.Level.{Level}
-use Rattle.reading.proofs.Counted.{neither}
-use Rattle.reading.proofs.Gains.{one_longer}
-
--- The count of levels
-
-pub none_or_all : (x : Contents) (n all count : ℕ) → nodes (book_of x) ≡ count → all ≡ count → ((n ≡ 0 → ⊥) × (n ≡ all)) ⊎ (n ≡ 0) → Counts Levels x n
-none_or_all x n all count e f (inl p) = inr (p.1 ∙ f ∙ sym e)
-none_or_all x n all count e f (inr p) = inl p
-
-pub none_nor_all : (x : Contents) (n all count : ℕ) → nodes (book_of x) ≡ count → all ≡ count → (n ≡ 0 → ⊥) → (n ≡ all → ⊥) → Counts Levels x n → ⊥
-none_nor_all x n all count e f some not-all = neither n 0 (nodes (book_of x)) some (λ p. not-all (p ∙ e ∙ sym f))
+use Rattle.reading.proofs.Steps.{Lies, Judged}
 
 -- Rows of one number or two
 
@@ -73,47 +61,15 @@ level_from k x e zs f = go k zs (f.0 ∙ ap parts e) f.1
 pub level_fits : (k : Kind) (x : Contents) → x.kind ≡ k → (bytes : List ℕ) (l : Level) → IsLevel k bytes l → Fits level x (numbers k l)
 level_fits k x e bytes l s = (s.count ∙ ap parts (sym e), s.short)
 
--- The rule of a level
+-- a level that was tested
+pub level_judged : (k : Kind) (x : Contents) → x.kind ≡ k → (bytes : List ℕ) (l : Level) → IsLevel k bytes l → (r : Result Level Refusal) → LevelTested k l r → Judged level x (IsLevel k) l (numbers k) r
+level_judged k x e bytes l i (Ok m) (same, fair) =
+    subst (λ v. Lies level x (IsLevel k) l (numbers k v) × First (rules level x (numbers k v)) None) (sym same) (record { spells = λ bytes s. s.spelling; fits = level_fits k x e bytes l i }, next (λ p. omega arith) refl)
+level_judged k x e bytes l i (Err d) (same, large) = inr (numbers k l, record { spells = λ bytes s. s.spelling; fits = level_fits k x e bytes l i }, subst (λ d. First (rules level x (numbers k l)) (Some (number d))) (sym same) (here large))
 
-pub too_large : (x : Contents) (zs : List ℤ) → leb (level_size zs) 1000000 ≡ false → First (rules level x zs) (Some 3)
-too_large x zs e = here (leb-false (level_size zs) 1000000 e)
-
-pub not_too_large : (x : Contents) (zs : List ℤ) → leb (level_size zs) 1000000 ≡ true → First (rules level x zs) None
-not_too_large x zs e = let le = leb-true (level_size zs) 1000000 e in next (λ p. omega arith) refl
-
--- Levels, one after the other
-
--- i of n levels are read, and are these
-pub record Levelling (k : Kind) (n i : ℕ) (before after : Reader) (ls : List Level) : Type 0 where
-  pub count : length ls ≡ i
-  pub onward : (x : Contents) (due : List Slot) → x.kind ≡ k → length x.levels ≡ 0 → (m : ℕ) → i + m ≡ n → Onward (replicate n level ++ due) x before (replicate m level ++ due) (with_levels x (map (numbers k) ls)) after
-
-pub no_level : (k : Kind) (n : ℕ) (before : Reader) (ls : List Level) → ls ≡ [] → Levelling k n 0 before before ls
-no_level k n before ls e = record {
-  count = ap length e;
-  onward = λ x due q none m s.
-      let same : m ≡ n = omega arith in
-      let bare : map (numbers k) ls ≡ x.levels = ap (map (numbers k)) e ∙ sym (nil_from_length x.levels none) in
-      subst (λ zs. Onward (replicate n level ++ due) x before (replicate m level ++ due) (with_levels x zs) before) (sym bare) (subst (λ j. Onward (replicate n level ++ due) x before (replicate j level ++ due) x before) (sym same) (λ o h. h));
-}
-
-module _ (k : Kind) (n i : ℕ) {before middle : Reader} (ls : List Level) (g : Levelling k n i before middle ls) (more : i < n) where
-  -- one level more
-  pub one_level : {after : Reader} (v : Level) (all : List Level) → all ≡ ls ++ v ∷ [] → ((y : Contents) → y.kind ≡ k → (due : List Slot) → Onward (level ∷ due) y middle due (with_line level (numbers k v) y) after) → Levelling k n (i + 1) before after all
-  one_level {after} v all e step = record {
-    count = ap length e ∙ one_longer ls v ∙ ap (λ j. j + 1) g.count;
-    onward = λ x due q none m s.
-        let zs : map (numbers k) all ≡ map (numbers k) ls ++ numbers k v ∷ [] = ap (map (numbers k)) e ∙ map_push (numbers k) ls v in
-        subst (λ zs. Onward (replicate n level ++ due) x before (replicate m level ++ due) (with_levels x zs) after) (sym zs)
-        (λ o h. g.onward x due q none (suc m) (omega arith) o (step (with_levels x (map (numbers k) ls)) q (replicate m level ++ due) o h));
-  }
-
-  -- the text is refused at the next level
-  pub stopped_level : (f : Fault) → ((y : Contents) → y.kind ≡ k → (due : List Slot) → Stops (level ∷ due) y middle f) → (x : Contents) (due : List Slot) → x.kind ≡ k → length x.levels ≡ 0 → Stops (replicate n level ++ due) x before f
-  stopped_level f stop x due q none =
-      let m = n - (i + 1) in
-      g.onward x due q none (suc m) (omega arith) _ (stop (with_levels x (map (numbers k) ls)) q (replicate m level ++ due))
-
--- all are read
-pub all_levels : (k : Kind) (n i : ℕ) {before after : Reader} (ls : List Level) → Levelling k n i before after ls → i ≡ n → (x : Contents) (due : List Slot) → x.kind ≡ k → length x.levels ≡ 0 → Onward (replicate n level ++ due) x before due (with_levels x (map (numbers k) ls)) after
-all_levels k n i ls g e x due q none = g.onward x due q none 0 (omega arith)
+-- one level more
+pub level_held : (k : Told) (b : Book) (us : List ℕ) (ls all : List Level) (v : Level) → all ≡ ls ++ v ∷ [] → with_line level (numbers (kind_as k) v) (held k b us ls) ≡ held k b us all
+level_held k b us ls all v e =
+    let n = numbers (kind_as k) in
+    let zs : map n ls ++ n v ∷ [] ≡ map n all = sym (map_push n ls v) ∙ ap (map n) (sym e) in
+    ap (with_levels (held k b us ls)) zs

@@ -1,6 +1,8 @@
 -- The next line of a text, read as a head, a name or a row of numbers.
 use Rattle.std.proofs.Common.{◌≡◌, ℕ, cond, eqb, List, ◌∷◌, Ok, Err, Result, sym, refl, ap, ◌∙◌, subst, arith, Bor}
+use Rattle.std.proofs.lemmas.Result.{MatchResult-at_ok}
 use Rattle.tables.specs.declared.refusal.Refusal.{Refusal}
+use Rattle.tables.specs.declared.refusal.Refusal.TheVariants.{Layout}
 use Rattle.text.specs.Faults.{fault_at, result_at}
 use Rattle.text.specs.Lines.{Says}
 use Rattle.text.specs.Numbers.{spelt, Notation, Reads}
@@ -16,21 +18,26 @@ use Rattle.text.specs.declared.row.Row.{Row}
 use Rattle.text.specs.declared.section.Section.{Section}
 use Rattle.text.specs.declared.section.Section.TheVariants.{Kinds, Items, Members, Holdings, Offers, Levels}
 use Rattle.text.proofs.Cuts.{first_once}
-use Rattle.reading.specs.Reading.{Missing, ReadNext, IsHead, RowOf}
+use Rattle.text.proofs.Faults.{ok_from_at, layout_fault}
+use Rattle.reading.specs.Reading.{Missing, IsHead, RowOf}
 
 -- where no line of the sort comes next, no x does
 pub missing : {L X : Type 0} {S : List ℕ → L → Type 0} (Is : List ℕ → X → Type 0) {before after : Reader} {f : Fault} → Halted S before after f → ((bytes : List ℕ) (x : X) → Is bytes x → (l : L) × S bytes l) → Missing Is before f
 missing Is h from = record { fault = h.fault; none = λ x bytes rest at i. let b = from bytes x i in h.none b.0 bytes rest at b.1 }
 
 -- the next line, read further
-pub refined : {L X : Type 0} {S : List ℕ → L → Type 0} (Q : L → X → Type 0) (Is : List ℕ → X → Type 0) {before after : Reader} (l : L) → Advanced S before after l → ((bytes : List ℕ) → S bytes l → (x : X) → Q l x → Is bytes x) → ((bytes : List ℕ) → S bytes l → (x : X) → Is bytes x → (y : X) × Q l y) → (r : Result X Refusal) → Reads (Q l) r → (o : Result X Fault) → o ≡ result_at before.line r → ReadNext Is before after o
-refined Q Is {before} {after} l a to from (Ok x) h o e =
-    subst (λ o. ReadNext Is before after o) (sym e) (record { line_bytes = a.line_bytes; ended = a.ended; is = to a.line_bytes a.is x h; counted = a.counted })
-refined {S} Q Is {before} {after} l a to from (Err d) h o e =
-    subst (λ o. ReadNext Is before after o) (sym e) (record {
-      fault = ap (fault_at before.line) h.0;
-      none = λ x bytes rest at i. let b = from bytes (subst (λ bs. S bs l) (first_once a.ended at).0 a.is) x i in h.1 b.0 b.1;
-    })
+pub refined : {L X : Type 0} {S : List ℕ → L → Type 0} (Q : L → X → Type 0) (Is : List ℕ → X → Type 0) {before after : Reader} (l : L) → Advanced S before after l → ((bytes : List ℕ) → S bytes l → (x : X) → Q l x → Is bytes x) → (line : ℕ) (r : Result X Refusal) → Reads (Q l) r → (x : X) → Ok x ≡ result_at line r → Advanced Is before after x
+refined Q Is l a to line r h x e =
+    record { line_bytes = a.line_bytes; ended = a.ended; is = to a.line_bytes a.is x (MatchResult-at_ok (Q l) _ x (ok_from_at line r x e) h); counted = a.counted }
+
+-- where it is no x, no x comes next
+pub unread : {L X : Type 0} {S : List ℕ → L → Type 0} (Q : L → X → Type 0) (Is : List ℕ → X → Type 0) {before after : Reader} (l : L) → Advanced S before after l → ((bytes : List ℕ) → S bytes l → (x : X) → Is bytes x → (y : X) × Q l y) → (line : ℕ) → line ≡ before.line → (r : Result X Refusal) → Reads (Q l) r → (f : Fault) → Err f ≡ result_at line r → Missing Is before f
+unread {S = S} Q Is {before} l a from line n r h f e =
+    let g = layout_fault (Q l) line r f e h in
+    record {
+      fault = g.0 ∙ ap (λ k. fault_at k Layout) n;
+      none = λ x bytes rest at i. let b = from bytes (subst (λ bs. S bs l) (first_once a.ended at).0 a.is) x i in g.1 b.0 b.1;
+    }
 
 -- Heads
 

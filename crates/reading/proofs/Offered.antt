@@ -1,18 +1,22 @@
--- Offers, each its head and under it its lines, one after the other.
-use Rattle.std.proofs.Common.{◌≡◌, ℕ, suc, ◌+◌, ◌-◌, ◌<◌, ◌≤◌, List, [], ◌∷◌, ◌++◌, map, length, replicate, Ok, Err, Result, sym, refl, ap, ◌∙◌, subst, subst₂, append_assoc, append-nil, arith, MatchResult}
-use Rattle.std.proofs.lemmas.List.{length-map, length-append, length_push, map_push, nil_from_length}
+-- Offers, each its head and under it its lines.
+use Rattle.std.proofs.Common.{◌≡◌, ℕ, ◌+◌, ◌<◌, ◌≤◌, List, [], ◌∷◌, ◌++◌, map, length, replicate, sym, refl, ap, ◌∙◌, subst, subst₂, append_assoc, append-nil, arith}
+use Rattle.std.proofs.lemmas.List.{length-map, length-append, map_push}
 use Rattle.text.specs.declared.fault.Fault.{Fault}
 use Rattle.text.specs.declared.reader.Reader.{Reader}
 use Rattle.book.specs.Books.{Book, Offer, Loop, Side, FairOffer, line_count}
 use Rattle.book.specs.declared.line.Line.{Line}
 use Rattle.layout.specs.Layout.{Slot, offer, give, get, calls_for, with_line, with_offers}
-use Rattle.layout.specs.Records.{OfferWithUnits, Contents, line_of, units_of, offer_of, book_of}
+use Rattle.layout.specs.Records.{OfferWithUnits, Contents, units_of, line_of, offer_of, book_of}
 use Rattle.round.specs.Offering.{made}
-use Rattle.reading.specs.Held.{units_in}
-use Rattle.reading.specs.Offers.{head_said, FairHead, give_lines, get_lines, with_part, LinesRead, LinesStop, OfferAdded, OfferRead}
-use Rattle.reading.specs.Reading.{Onward, Stops, OffersGained}
+use Rattle.reading.specs.Held.{units_in, filled_offers, held}
+use Rattle.reading.specs.Kinds.{kind as kind_as}
+use Rattle.reading.specs.Levels.{numbers}
+use Rattle.reading.specs.Offers.{head_said, FairHead, give_lines, get_lines, with_part, LinesRead, LinesStop, OfferAdded}
+use Rattle.reading.specs.Reading.{Onward, Stops}
+use Rattle.reading.specs.declared.kind.Kind.{Kind}
+use Rattle.reading.specs.declared.level.Level.{Level}
 use Rattle.reading.specs.declared.offer_head.OfferHead.{OfferHead}
-use Rattle.reading.proofs.Helds.{units_counted}
+use Rattle.reading.proofs.Helds.{refilled, units_counted}
 
 -- the units of one offer more
 units_push : (os : List OfferWithUnits) (o : OfferWithUnits) → units_in (os ++ o ∷ []) ≡ (units_in os ++ map units_of o.give) ++ map units_of o.get
@@ -39,12 +43,12 @@ units_long {units = units} d = omega (arith, d.many, ap length d.units_are, leng
 side_read : {items : ℕ} {gs : List Line} {n : ℕ} {lines : List Line} {units units' : List ℕ} {before after : Reader} → LinesRead items gs n 0 lines units units' before after → 1 ≤ n → Side items lines
 side_read d some = record { some = omega (arith, lines_long d); fair = d.fair; apart = d.apart }
 
--- as many members and lines as the round has
-pub members_known : (x : Contents) (b : Book) (n : ℕ) → book_of x ≡ b → n ≡ length b.members → length x.members ≡ n
-members_known x b n e q = ap (λ c. length c.members) e ∙ sym q
-
-pub lines_known : (x : Contents) (units : List ℕ) (n : ℕ) → units_in x.offers ≡ units → n ≡ length units → line_count (map offer_of x.offers) ≡ n
-lines_known x units n u q = sym (units_counted x.offers) ∙ ap length u ∙ sym q
+-- an offer was read, and the round and the row of units hold it besides these contents
+pub record OfferRead (x : Contents) (before after : Reader) (held : Book) (units : List ℕ) : Type 0 where
+  pub said : OfferWithUnits
+  pub onward : (due : List Slot) → Onward (offer ∷ due) x before due (with_offers x (x.offers ++ said ∷ [])) after
+  pub holds : book_of (with_offers x (x.offers ++ said ∷ [])) ≡ held
+  pub row : units_in (x.offers ++ said ∷ []) ≡ units
 
 -- the head of an offer was read after these contents, whose units are in a row
 pub record Begun (x : Contents) (units : List ℕ) (h : OfferHead) (items : ℕ) (before middle : Reader) : Type 0 where
@@ -56,8 +60,8 @@ pub record Begun (x : Contents) (units : List ℕ) (h : OfferHead) (items : ℕ)
 
 pub begun : (x : Contents) (b : Book) (units : List ℕ) (items members lines : ℕ) (h : OfferHead) (before middle : Reader) → book_of x ≡ b → units_in x.offers ≡ units → length x.offers < 64 → items ≡ length b.items → members ≡ length b.members → lines ≡ length units → FairHead members lines h → ((y : Contents) → length y.members ≡ members → line_count (map offer_of y.offers) ≡ lines → (due : List Slot) → Onward (offer ∷ due) y before (calls_for offer (head_said h) ++ due) (with_line offer (head_said h) y) middle) → Begun x units h items before middle
 begun x b units items members lines h before middle e u few ei em el fair on =
-    let m = members_known x b members e em in
-    let l = lines_known x units lines u el in
+    let m = ap (λ c. length c.members) e ∙ sym em in
+    let l = sym (units_counted x.offers) ∙ ap length u ∙ sym el in
     record {
       onward = on x m l;
       known = ap (λ c. length c.items) e ∙ sym ei;
@@ -74,7 +78,7 @@ module _ {x : Contents} {units : List ℕ} {h : OfferHead} {items : ℕ} {before
   pub give_stops : (f : Fault) → LinesStop items [] h.gives middle f → (due : List Slot) → Stops (offer ∷ due) x before f
   give_stops f stop due = to_gives due _ (stop give_lines x (head_said h) (replicate h.gets get ++ due) (b.known, refl))
 
-  module _ {lines gs : List Line} {units' : List ℕ} {later : Reader} (g : LinesRead items [] h.gives 0 lines units units' middle later) (same : gs ≡ lines) where
+  module _ {lines gs : List Line} {none units' : List ℕ} {later : Reader} (g : LinesRead items [] h.gives 0 lines none units' middle later) (same : gs ≡ lines) where
     to_gets : (due : List Slot) → Onward (offer ∷ due) x before (replicate h.gets get ++ due) (with_part (get_lines g.said) x (head_said h) []) later
     to_gets due o r = to_gives due o (g.onward give_lines x (head_said h) (replicate h.gets get ++ due) (b.known, refl) o r)
 
@@ -98,70 +102,33 @@ module _ {x : Contents} {units : List ℕ} {h : OfferHead} {items : ℕ} {before
       room : line_count (map offer_of x.offers) + (length lines + length lines') ≤ 256
       room = omega (arith, b.fair.room, lines_long g, lines_long w)
 
-      -- it is read, and the round has taken it
-      pub all_read : (held old : Book) (ls ls' : List Line) → book_of x ≡ old → ls ≡ lines → ls' ≡ lines' → OfferAdded old held (made h.member h.limit ls ls') → OfferRead x before after held units''
-      all_read held old ls ls' e eg ew added = record {
+      -- it is read, the round has taken it, and its units have come to the row
+      pub all_read : (old held : Book) (ls ls' : List Line) (row : List ℕ) → book_of x ≡ old → ls ≡ lines → ls' ≡ lines' → OfferAdded old held (made h.member h.limit ls ls') → none ≡ [] → row ≡ units ++ units'' → OfferRead x before after held row
+      all_read old held ls ls' row e eg ew added en er = record {
         said = this;
         onward = λ due o r. to_gets due o (w.onward (get_lines g.said) x (head_said h) due (b.known, g.lines_are ∙ sym same) o r);
         holds = (λ i. record { items = x.items; members = x.members; holdings = x.holdings; offers = same_offers i }) ∙ sym (add fair_offer (omega (arith, b.few, length-map x.offers offer_of)) room);
-        row = units_push x.offers this ∙ ap (λ us. (us ++ map units_of g.said) ++ map units_of w.said) b.row ∙ ap (λ us. us ++ map units_of w.said) g.units_are ∙ w.units_are;
+        row =
+          units_push x.offers this
+          ∙ (λ i. (b.row i ++ gives i) ++ map units_of w.said)
+          ∙ append_assoc units units' (map units_of w.said)
+          ∙ ap (λ us. units ++ us) w.units_are
+          ∙ sym er;
       }
         where
+          gives : map units_of g.said ≡ units'
+          gives = ap (λ us. us ++ map units_of g.said) (sym en) ∙ g.units_are
+
           add : OfferAdded (book_of x) held that
           add = subst (λ c. OfferAdded c held that) (sym e) (subst₂ (λ gs ws. OfferAdded old held (made h.member h.limit gs ws)) eg ew added)
 
--- k of n offers are read, and the round and the row of units hold them
-abbrev pub Gathering : ℕ → ℕ → Reader → Reader → Book → Book → List ℕ → List ℕ → Type 0
-Gathering n k before after start held units units' = (x : Contents) (due : List Slot) → book_of x ≡ start → units_in x.offers ≡ units → length x.offers + n ≤ 64 → (m : ℕ) → k + m ≡ n → (g : OffersGained (replicate n offer ++ due) x before (replicate m offer ++ due) after held units') × (length g.contents.offers ≡ length x.offers + k)
+-- the contents of a draft with one offer more
+module _ (k : Kind) (ls : List Level) (old b : Book) (us us' : List ℕ) (before after : Reader) (r : OfferRead (held k old us ls) before after b us') where
+  abbrev pub with_said : Contents
+  with_said = let x = held k old us ls in with_offers x (x.offers ++ r.said ∷ [])
 
-pub begin : (n : ℕ) (before : Reader) (start : Book) (units : List ℕ) → Gathering n 0 before before start start units units
-begin n before start units x due e u le m q =
-    let same : m ≡ n = omega arith in (
-      record {
-        contents = x;
-        onward = subst (λ k. Onward (replicate n offer ++ due) x before (replicate k offer ++ due) x before) (sym same) (λ o r. r);
-        holds = e;
-        row = u;
-        kind = refl;
-        levels = refl;
-      },
-      omega arith,
-    )
+  pub offer_held : with_said ≡ held k b us' ls
+  offer_held = let y = with_said in let filled : y.offers ≡ filled_offers b.offers us' = sym (refilled y.offers) ∙ (λ i. filled_offers (r.holds i).offers (r.row i)) in (λ i. record { kind = kind_as k; items = (r.holds i).items; members = (r.holds i).members; holdings = (r.holds i).holdings; offers = filled i; levels = map (numbers (kind_as k)) ls })
 
-module _ (n k : ℕ) {before middle : Reader} {start held : Book} {units units' : List ℕ} (g : Gathering n k before middle start held units units') where
-  -- one offer more
-  pub again : {after : Reader} {more : Book} {units'' : List ℕ} → k < n → ((y : Contents) → book_of y ≡ held → units_in y.offers ≡ units' → length y.offers < 64 → OfferRead y middle after more units'') → Gathering n (k + 1) before after start more units units''
-  again lt step x due e u le m q =
-      let h = g x due e u le (suc m) (omega arith) in
-      let y = h.0.contents in
-      let t = step y h.0.holds h.0.row (omega (arith, h.1)) in (
-        record {
-          contents = with_offers y (y.offers ++ t.said ∷ []);
-          onward = λ o r. h.0.onward o (t.onward (replicate m offer ++ due) o r);
-          holds = t.holds;
-          row = t.row;
-          kind = h.0.kind;
-          levels = h.0.levels;
-        },
-        omega (arith, length_push y.offers t.said, h.1),
-      )
-
-  -- the text is refused in the next
-  pub stopped : (f : Fault) → k < n → ((y : Contents) → book_of y ≡ held → units_in y.offers ≡ units' → length y.offers < 64 → (due : List Slot) → Stops (offer ∷ due) y middle f) → (x : Contents) (due : List Slot) → book_of x ≡ start → units_in x.offers ≡ units → length x.offers + n ≤ 64 → Stops (replicate n offer ++ due) x before f
-  stopped f lt stop x due e u le =
-      let m = n - (k + 1) in
-      let h = g x due e u le (suc m) (omega arith) in
-      h.0.onward _ (stop h.0.contents h.0.holds h.0.row (omega (arith, h.1)) (replicate m offer ++ due))
-
-  -- all are read
-  pub gathered : k ≡ n → (x : Contents) (due : List Slot) → book_of x ≡ start → units_in x.offers ≡ units → length x.offers + n ≤ 64 → OffersGained (replicate n offer ++ due) x before due middle held units'
-  gathered q x due e u le = (g x due e u le 0 (omega arith)).0
-
--- offers after the head of their section
-pub past_head : (due next last : List Slot) (x : Contents) (before middle after : Reader) (held : Book) (units : List ℕ) → Onward due x before next x middle → (r : Result (Unit {0}) Fault) → MatchResult r (λ _. OffersGained next x middle last after held units) (λ f. Stops next x middle f) → MatchResult r (λ _. OffersGained due x before last after held units) (λ f. Stops due x before f)
-past_head due next last x before middle after held units on (Ok u) g = record { contents = g.contents; onward = λ o r. on o (g.onward o r); holds = g.holds; row = g.row; kind = g.kind; levels = g.levels }
-past_head due next last x before middle after held units on (Err f) g = on _ g
-
--- no offer has no units
-pub no_units : (x : Contents) (units : List ℕ) → length x.offers ≡ 0 → units ≡ [] → units_in x.offers ≡ units
-no_units x units none e = ap units_in (nil_from_length x.offers none) ∙ sym e
+  pub offer_counted : length us' ≡ line_count b.offers
+  offer_counted = sym (ap length r.row) ∙ units_counted with_said.offers ∙ ap (λ c. line_count c.offers) r.holds

@@ -21,7 +21,7 @@ use Rattle.layout.proofs.Kept.{last_push, on_last_push}
 use Rattle.layout.proofs.Lists.{none_apart, apart_push, loop_push}
 use Rattle.reading.specs.Offers.{line_said, as_line, FairBelow, Part, give_lines, get_lines, slot, offer_with, with_part, Within, LineAdded, LinesRead, LinesStop}
 use Rattle.reading.specs.Reading.{Missing, Onward, Stops, LineRead}
-use Rattle.reading.specs.declared.offer_line.FilledLine.{FilledLine}
+use Rattle.reading.specs.declared.side.FilledLine.{FilledLine}
 use Rattle.reading.proofs.Tested.{give_row, get_row, no_row, tested}
 
 -- a last rule that cannot be broken

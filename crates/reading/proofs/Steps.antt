@@ -1,6 +1,6 @@
 -- One line of a text: it lies next and keeps the rules, breaks one, or is not there.
-use Rattle.std.proofs.Common.{◌≡◌, ℕ, List, ◌∷◌, ◌++◌, Some, None, Ok, Err, Result, sym, subst}
-use Rattle.tables.specs.Refusals.{First, number, refusal}
+use Rattle.std.proofs.Common.{◌≡◌, ℕ, ◌⊎◌, List, ◌∷◌, ◌++◌, Some, None, Ok, Err, Result, sym, subst, inl, inr, MatchResult}
+use Rattle.tables.specs.Refusals.{First, number}
 use Rattle.tables.specs.declared.refusal.Refusal.{Refusal}
 use Rattle.tables.specs.declared.refusal.Refusal.TheVariants.{Layout}
 use Rattle.text.specs.Faults.{fault_at, result_at}
@@ -9,9 +9,8 @@ use Rattle.text.specs.Readers.{Advanced}
 use Rattle.text.specs.declared.fault.Fault.{Fault}
 use Rattle.text.specs.declared.reader.Reader.{Reader}
 use Rattle.text.proofs.Cuts.{first_once}
-use Rattle.text.proofs.Faults.{ok_from_at, err_from_at}
 use Rattle.layout.specs.Layout.{Slot, Says, spell, Fits, rules, calls_for, with_line}
-use Rattle.reading.specs.Reading.{Missing, Onward, Stops}
+use Rattle.reading.specs.Reading.{Missing, Onward, Stops, LineRead}
 use Rattle.layout.specs.Records.{Contents}
 use Rattle.layout.specs.Runs.{LiesNext, ComesTo, departs, breaks, keeps}
 
@@ -38,11 +37,20 @@ pub faulty : (s : Slot) (x : Contents) {X : Type 0} (Is : List ℕ → X → Typ
 faulty s x Is {before} {after} c a to fits line n e some due =
     subst (λ k. Stops (s ∷ due) x before (fault_at k e)) (sym n) (breaks c after.rest.now (lies s x Is c a to fits) some)
 
--- the same, as a call tells it that was made with what the line says
-pub kept : (s : Slot) (x : Contents) {X Y : Type 0} (Is : List ℕ → X → Type 0) {before after : Reader} {v : X} (c : Says s) → Advanced Is before after v → ((bytes : List ℕ) → Is bytes v → bytes ≡ spell s c) → Fits s x c → (line : ℕ) (r : Result Y Refusal) → First (rules s x c) (refusal r) → (y : Y) → Ok y ≡ result_at line r → (due : List Slot) → Onward (s ∷ due) x before (calls_for s c ++ due) (with_line s c x) after
-kept s x Is c a to fits line r first y e = sound s x Is c a to fits (subst (λ q. First (rules s x c) (refusal q)) (ok_from_at line r y e) first)
+-- what a line says is c
+pub record Lies (s : Slot) (x : Contents) {V : Type 0} (Is : List ℕ → V → Type 0) (v : V) (c : Says s) : Type 0 where
+  pub spells : (bytes : List ℕ) → Is bytes v → bytes ≡ spell s c
+  pub fits : Fits s x c
 
-pub broke : (s : Slot) (x : Contents) {X Y : Type 0} (Is : List ℕ → X → Type 0) {before after : Reader} {v : X} (c : Says s) → Advanced Is before after v → ((bytes : List ℕ) → Is bytes v → bytes ≡ spell s c) → Fits s x c → (line : ℕ) → line ≡ before.line → (r : Result Y Refusal) → First (rules s x c) (refusal r) → (f : Fault) → Err f ≡ result_at line r → (due : List Slot) → Stops (s ∷ due) x before f
-broke s x Is {before} c a to fits line n r first f e due =
-    let q = err_from_at line r f e in
-    subst (λ g. Stops (s ∷ due) x before g) (sym q.1) (faulty s x Is c a to fits line n f.refusal (subst (λ t. First (rules s x c) (refusal t)) q.0 first) due)
+-- what a test makes of a line that says v: it says this and breaks no rule; or it is none of the sort, or breaks one
+abbrev pub Judged : (s : Slot) {V Y : Type 0} (x : Contents) (Is : List ℕ → V → Type 0) (v : V) (said : Y → Says s) → Result Y Refusal → Type 0
+Judged s x Is v said r = MatchResult r (λ y. Lies s x Is v (said y) × First (rules s x (said y)) None) (λ e. ((e ≡ Layout) × ((c : Says s) → Fits s x c → Is (spell s c) v → ⊥)) ⊎ ((c : Says s) × Lies s x Is v c × First (rules s x c) (Some (number e))))
+
+-- so the line is read
+pub judged : (s : Slot) {V Y : Type 0} (x : Contents) (Is : List ℕ → V → Type 0) (said : Y → Says s) {before after : Reader} {v : V} → Advanced Is before after v → (line : ℕ) → line ≡ before.line → (r : Result Y Refusal) → Judged s x Is v said r → (o : Result Y Fault) → o ≡ result_at line r → LineRead s said x before after o
+judged s {Y = Y} x Is said {before} {after} {v = v} a line n r j o e = subst (LineRead s said x before after) (sym e) (told r j)
+  where
+    told : (r : Result Y Refusal) → Judged s x Is v said r → LineRead s said x before after (result_at line r)
+    told (Ok y) (l, none) = sound s x Is (said y) a l.spells l.fits none
+    told (Err d) (inl (q, not)) = subst (λ g. (due : List Slot) → Stops (s ∷ due) x before (fault_at line g)) (sym q) (departed s x Is a not line n)
+    told (Err d) (inr (c, l, some)) = faulty s x Is c a l.spells l.fits line n d some

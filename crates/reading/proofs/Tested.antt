@@ -1,5 +1,5 @@
 -- Lines that are rows of n numbers, tested against the rules of their sort.
-use Rattle.std.proofs.Common.{◌≡◌, ℕ, ◌<◌, List, [], ◌∷◌, ◌++◌, length, get_or, IfOk, Ok, Err, Result, sym, refl, ap, ◌∙◌, subst, arith}
+use Rattle.std.proofs.Common.{◌≡◌, ℕ, ◌<◌, List, [], ◌∷◌, ◌++◌, length, get_or, IfOk, None, Ok, Err, Result, sym, refl, ap, ◌∙◌, subst, inr, arith}
 use Rattle.tables.specs.Refusals.{First, refusal}
 use Rattle.tables.specs.declared.refusal.Refusal.{Refusal}
 use Rattle.text.specs.Faults.{result_at}
@@ -11,8 +11,8 @@ use Rattle.text.specs.declared.reader.Reader.{Reader}
 use Rattle.layout.specs.Layout.{Slot, offer, give, get, Says, offer_row, line_row, spell, Fits, Short, rules, calls_for, with_line}
 use Rattle.layout.specs.Records.{Contents}
 use Rattle.reading.specs.Offers.{as_head, as_line}
-use Rattle.reading.specs.Reading.{Missing, Onward, Stops, LineRead}
-use Rattle.reading.proofs.Steps.{missed, sound, faulty}
+use Rattle.reading.specs.Reading.{Missing, Stops, LineRead}
+use Rattle.reading.proofs.Steps.{Lies, Judged, missed, judged}
 
 -- a sort of lines that are rows of n numbers, and what n numbers say
 pub record InRow (s : Slot) (n : ℕ) : Type 0 where
@@ -53,20 +53,18 @@ module _ {s : Slot} {n : ℕ} (is : InRow s n) (x : Contents) where
   pub no_row : {before : Reader} {f : Fault} → Missing (SpellsRow unsigned n) before f → (due : List Slot) → Stops (s ∷ due) x before f
   no_row m = missed s x (SpellsRow unsigned n) m (λ c p. (is.row c, record { some = is.some; count = is.count c; spelling = is.spelling c; short = is.short x c p }))
 
+  row_lies : (ns bytes : List ℕ) → SpellsRow unsigned n bytes ns → Lies s x (SpellsRow unsigned n) ns (is.says ns)
+  row_lies ns bytes i =
+      let again = is.back ns i.count in
+      record {
+        spells = λ bytes j. j.spelling ∙ ap (row_spelt unsigned) (sym again) ∙ sym (is.spelling (is.says ns));
+        fits = is.fits x (is.says ns) (subst (Short unsigned) (sym again) i.short);
+      }
+
   -- one does, and a test of its numbers says what comes of it
   pub tested : {Y : Type 0} (said : Y → Says s) {before after : Reader} (ns : List ℕ) → Advanced (SpellsRow unsigned n) before after ns → (line : ℕ) → line ≡ before.line → (r : Result Y Refusal) → First (rules s x (is.says ns)) (refusal r) → IfOk r (λ y. said y ≡ is.says ns) → (o : Result Y Fault) → o ≡ result_at line r → LineRead s said x before after o
-  tested {Y} said {before} {after} ns a line at r first same o e = subst (LineRead s said x before after) (sym e) (told r first same)
+  tested {Y} said ns a line at r first same o e = judged s x (SpellsRow unsigned n) said a line at r (verdict r first same) o e
     where
-      again : is.row (is.says ns) ≡ ns
-      again = is.back ns a.is.count
-
-      spells : (bytes : List ℕ) → SpellsRow unsigned n bytes ns → bytes ≡ spell s (is.says ns)
-      spells bytes i = i.spelling ∙ ap (row_spelt unsigned) (sym again) ∙ sym (is.spelling (is.says ns))
-
-      fit : Fits s x (is.says ns)
-      fit = is.fits x (is.says ns) (subst (Short unsigned) (sym again) a.is.short)
-
-      told : (r : Result Y Refusal) → First (rules s x (is.says ns)) (refusal r) → IfOk r (λ y. said y ≡ is.says ns) → LineRead s said x before after (result_at line r)
-      told (Ok y) none q =
-          subst (λ c. (due : List Slot) → Onward (s ∷ due) x before (calls_for s c ++ due) (with_line s c x) after) (sym q) (sound s x (SpellsRow unsigned n) (is.says ns) a spells fit none)
-      told (Err d) some q = faulty s x (SpellsRow unsigned n) (is.says ns) a spells fit line at d some
+      verdict : (r : Result Y Refusal) → First (rules s x (is.says ns)) (refusal r) → IfOk r (λ y. said y ≡ is.says ns) → Judged s x (SpellsRow unsigned n) ns said r
+      verdict (Ok y) none q = subst (λ c. Lies s x (SpellsRow unsigned n) ns c × First (rules s x c) None) (sym q) (row_lies ns a.line_bytes a.is, none)
+      verdict (Err d) some q = inr (is.says ns, row_lies ns a.line_bytes a.is, some)

@@ -32,12 +32,6 @@ reading_law = record { spelling = reads_records; apart = one_text; some = some_o
 pub few_nodes : (r : OpenRound) → nodes (book r) ≤ 272
 few_nodes r = ∥∥₁_elim r.sound le_prop (λ s. omega (arith, s.items_few, s.holdings_few, s.offers_few))
 
--- contents with levels are those of the record with this kind, book, units and levels
-pub wholly : (k : Kind) (y : Contents) (b : Book) (us : List ℕ) (ls : List Level) → y.kind ≡ kind_as k → book_of y ≡ b → units_in y.offers ≡ us → with_levels y (map (numbers (kind_as k)) ls) ≡ held k b us ls
-wholly k y b us ls e h u =
-    let filled : y.offers ≡ filled_offers b.offers us = sym (refilled y.offers) ∙ (λ i. filled_offers (h i).offers (u i)) in
-    (λ i. record { kind = e i; items = (h i).items; members = (h i).members; holdings = (h i).holdings; offers = filled i; levels = map (numbers (kind_as k)) ls })
-
 -- the text from where the reader begins
 pub from_start : (text : List ℕ) (reader : Reader) → Begins text reader → (o : Outcome) → ComesTo heads nothing reader.rest.now reader.line o → ComesTo heads nothing text 1 o
 from_start text reader (t, l) o h = subst (λ k. ComesTo heads nothing text k o) l (subst (λ s. ComesTo heads nothing s reader.line o) t h)

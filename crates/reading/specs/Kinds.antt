@@ -1,5 +1,7 @@
 -- The kind of a record, and the number of its parts.
-use Rattle.std.specs.Prelude.{ℕ}
+use Rattle.std.specs.Prelude.{◌≡◌, ℕ, ◌≢◌, Result, MatchResult}
+use Rattle.tables.specs.declared.refusal.Refusal.{Refusal}
+use Rattle.tables.specs.declared.refusal.Refusal.TheVariants.{Layout}
 use Rattle.layout.specs.Records.{Kind, by_money, by_money_then_weeks, Contents}
 use Rattle.reading.specs.declared.kind.Kind.{Kind as Told}
 use Rattle.reading.specs.declared.kind.Kind.TheVariants.{Money, MoneyThenWeeks}
@@ -7,6 +9,10 @@ use Rattle.reading.specs.declared.kind.Kind.TheVariants.{Money, MoneyThenWeeks}
 abbrev pub count_of : Told → ℕ
 count_of Money = 1
 count_of MoneyThenWeeks = 2
+
+-- the kind with so many parts; or no kind has so many, and the text departs from the layout
+abbrev pub WithParts : ℕ → Result Told Refusal → Type 0
+WithParts n r = MatchResult r (λ k. count_of k ≡ n) (λ e. (e ≡ Layout) × ((k : Told) → count_of k ≢ n))
 
 abbrev pub kind : Told → Kind
 kind Money = by_money

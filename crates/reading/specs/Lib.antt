@@ -1,7 +1,10 @@
-pub mod Reading
-pub mod Kinds
 pub mod Bounds
-pub mod Levels
-pub mod Held
 pub mod Contents
+pub mod Drafts
+pub mod Entries
+pub mod Held
+pub mod Holdings
+pub mod Kinds
+pub mod Levels
 pub mod Offers
+pub mod Reading

@@ -1,17 +1,18 @@
 -- Reading the offers of a record: the head of each, and under it the lines of its sides.
-use Rattle.std.specs.Prelude.{◌≡◌, ℕ, ◌+◌, ◌<◌, ◌≤◌, List, [], ◌∷◌, ◌++◌, map, length, replicate, Result, MatchResult, slice_index}
+use Rattle.std.specs.Prelude.{◌≡◌, ℕ, ◌+◌, ◌<◌, ◌≤◌, List, [], ◌∷◌, ◌++◌, map, length, replicate, IfOk, Result, MatchResult, slice_index}
 use Rattle.std.specs.List.{ContainsAt as Has, AllByRecursion}
+use Rattle.tables.specs.Refusals.{when, First, refusal}
+use Rattle.tables.specs.declared.refusal.Refusal.{Refusal}
 use Rattle.text.specs.declared.fault.Fault.{Fault}
 use Rattle.text.specs.declared.reader.Reader.{Reader}
 use Rattle.book.specs.Books.{Book, Offer, Distinct, Loop, Fair, FairOffer, item_of, line_count}
 use Rattle.book.specs.declared.line.Line.{Line}
-use Rattle.layout.specs.Layout.{Slot, offer, give, get, HeadOfOffer, with_offers}
-use Rattle.layout.specs.Records.{LineWithUnits, OfferWithUnits, Contents, line_of, units_of, book_of}
+use Rattle.layout.specs.Layout.{Slot, offer, give, get, HeadOfOffer, line_rules, rules, with_offers}
+use Rattle.layout.specs.Records.{LineWithUnits, OfferWithUnits, Contents, line_of, units_of, offer_of}
 use Rattle.round.specs.Rounds.{with_offers as book_with}
-use Rattle.reading.specs.Held.{units_in}
 use Rattle.reading.specs.Reading.{Onward, Stops}
 use Rattle.reading.specs.declared.offer_head.OfferHead.{OfferHead}
-use Rattle.reading.specs.declared.offer_line.FilledLine.{FilledLine}
+use Rattle.reading.specs.declared.side.FilledLine.{FilledLine}
 
 -- what the head of an offer says, and what a line of a side does
 abbrev pub head_said : OfferHead → HeadOfOffer
@@ -35,11 +36,23 @@ pub record FairHead (members lines : ℕ) (h : OfferHead) : Type 0 where
   pub gives : 1 ≤ h.gives
   pub gets : 1 ≤ h.gets
 
+-- numbers were tested as the head of an offer by one of so many members, below so many lines
+pub record HeadTested (members lines : ℕ) (ns : List ℕ) (r : Result OfferHead Refusal) : Type 0 where
+  pub fair : IfOk r (λ h. FairHead members lines h)
+  pub same : IfOk r (λ h. head_said h ≡ as_head ns)
+  pub refused : (x : Contents) → length x.members ≡ members → line_count (map offer_of x.offers) ≡ lines → First (rules offer x (as_head ns)) (refusal r)
+
 -- a line of one of so many items that may stand below these lines of its side, where these lines are given
 pub record FairBelow (items : ℕ) (given above : List Line) (l : Line) : Type 0 where
   pub fair : Fair items l
   pub apart : Has (map item_of above) l.item → ⊥
   pub no_loop : Loop given (l ∷ []) → ⊥
+
+-- numbers were tested as a line of such an offer, below these lines of its side
+pub record LineTested (items : ℕ) (given above : List Line) (ns : List ℕ) (r : Result FilledLine Refusal) : Type 0 where
+  pub fair : IfOk r (λ l. FairBelow items given above l.line)
+  pub same : IfOk r (λ l. line_said l ≡ as_line ns)
+  pub refused : (x : Contents) (ls : List LineWithUnits) → length x.items ≡ items → map line_of ls ≡ above → First (line_rules x ls (as_line ns) ++ when 8 (Loop given ((as_line ns).line ∷ [])) ∷ []) (refusal r)
 
 -- the lines of an offer that are being read: those that it gives, or those that it gets for given ones
 pub data Part : Type 0 where
@@ -88,10 +101,3 @@ LinesStop items gs n before f = (p : Part) (x : Contents) (h : HeadOfOffer) (due
 -- an offer that keeps the rules comes to the end of a book, where there is room for it
 abbrev pub OfferAdded : Book → Book → Offer → Type 0
 OfferAdded before after o = FairOffer (length before.items) (length before.members) o → length before.offers < 64 → line_count before.offers + (length o.give + length o.get) ≤ 256 → after ≡ book_with before (before.offers ++ o ∷ [])
-
--- an offer was read, and the round and the row of units hold it besides these contents
-pub record OfferRead (x : Contents) (before after : Reader) (held : Book) (units : List ℕ) : Type 0 where
-  pub said : OfferWithUnits
-  pub onward : (due : List Slot) → Onward (offer ∷ due) x before due (with_offers x (x.offers ++ said ∷ [])) after
-  pub holds : book_of (with_offers x (x.offers ++ said ∷ [])) ≡ held
-  pub row : units_in (x.offers ++ said ∷ []) ≡ units

@@ -4,5 +4,5 @@ ghost use Rattle.reading.specs.Bounds.{Clamped};
 pub(crate) fn clamp(n: u64) -> u32
     ensures { Clamped n result }
 {
-    if n < 2_000_000 { n as u32 } else { 2_000_000 }
+    n.min(2_000_000) as u32
 }

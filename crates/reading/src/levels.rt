@@ -1,121 +1,78 @@
-ghost use Rattle.std.specs.Prelude.{◌≡◌, ◌≤◌, List, ◌∷◌, ◌++◌, map, length, replicate, IfOk, MatchResult, nat_le};
+ghost use Rattle.std.specs.Prelude.{◌≡◌, nat_le};
 ghost use Rattle.text.specs.Numbers.{signed};
 ghost use Rattle.text.specs.Rows.{SpellsRow};
-ghost use Rattle.text.specs.declared.section.Section.TheVariants.{Levels as LevelsSection};
-ghost use Rattle.book.specs.Arcs.{nodes as node_count};
-ghost use Rattle.layout.specs.Layout.{Slot, head, level as a_level};
-ghost use Rattle.layout.specs.Records.{Contents, book_of, parts, level_size};
+ghost use Rattle.layout.specs.Layout.{level as a_level};
+ghost use Rattle.layout.specs.Records.{Contents, parts, level_size};
 ghost use Rattle.reading.specs.Kinds.{kind as kind_as};
-ghost use Rattle.reading.specs.Levels.{numbers, with_levels};
-ghost use Rattle.reading.specs.Reading.{ReadNext, LineRead, Onward, Stops};
+ghost use Rattle.reading.specs.Levels.{numbers, LevelTested};
+ghost use Rattle.reading.specs.Reading.{ReadNext, LineRead};
 
 use super::kind::Kind;
 use super::level::Level;
-use super::next::{next_head, next_row};
+use super::next::{Numbered, next_row};
 use tables::refusal::Refusal;
-use tables::table::Table;
 use text::fault::Fault;
 use text::reader::Reader;
-use text::section::Section;
 use worth::kind::Worth;
 use worth::lexicographic::Lexicographic;
 use worth::money::Money;
 use worth::weeks::Weeks;
 
-// Whether the size of a level is at most 1,000,000.
-fn is_fair(level: Level, kind: Kind) -> bool
-    ensures { result ≡ nat_le (level_size (numbers (kind_as kind) level)) 1000000 }
-{
-    let amount = Money { cents: level.cents };
-    match kind {
-        Kind::Money => amount.is_within(1_000_000),
-        Kind::MoneyThenWeeks => {
-            let weeks = Weeks { count: level.weeks };
-            let pair = Lexicographic {
-                first: amount,
-                second: weeks,
-            };
-            pair.is_within(1_000_000)
+impl Kind {
+    // Whether the size of a level is at most 1,000,000.
+    fn is_fair(self, level: Level) -> bool
+        ensures { result ≡ nat_le (level_size (numbers (kind_as self) level)) 1000000 }
+    {
+        let first = Money { cents: level.cents };
+        match self {
+            Kind::Money => first.is_within(1_000_000),
+            Kind::MoneyThenWeeks => {
+                let second = Weeks { count: level.weeks };
+                let pair = Lexicographic { first, second };
+                pair.is_within(1_000_000)
+            }
         }
     }
-}
 
-// The numbers of the next line, one for each part of the kind.
-fn next_numbers(reader: &mut Reader<'_>, kind: Kind) -> Result<Level, Fault>
-    ensures { ReadNext (λ bytes l. SpellsRow signed (parts (kind_as kind)) bytes (numbers (kind_as kind) l)) reader.old reader.new result }
-{
-    match kind {
-        Kind::Money => {
-            let row = next_row::<i64, 1>(reader)?;
-            Ok(Level {
-                cents: row[0],
-                weeks: 0,
-            })
-        }
-        Kind::MoneyThenWeeks => {
-            let row = next_row::<i64, 2>(reader)?;
-            Ok(Level {
-                cents: row[0],
-                weeks: row[1],
-            })
+    // The level, where it is fair.
+    fn test_level(self, level: Level) -> Result<Level, Refusal>
+        ensures { LevelTested (kind_as self) level result }
+    {
+        if self.is_fair(level) {
+            Ok(level)
+        } else {
+            Err(Refusal::Bounds)
         }
     }
-}
 
-// The next line under L, a level.
-pub(crate) fn next_level(reader: &mut Reader<'_>, kind: Kind) -> Result<Level, Fault>
-    ensures { (x : Contents) → x.kind ≡ kind_as kind → LineRead a_level (numbers (kind_as kind)) x reader.old reader.new result }
-{
-    let line = reader.line_number();
-    let level = next_numbers(reader, kind)?;
-    if !is_fair(level, kind) {
-        return Err(Fault {
-            refusal: Refusal::Bounds,
-            line,
-        });
+    // The numbers of the next line, one for each part of the kind.
+    fn next_numbers(self, reader: &mut Reader<'_>) -> Result<Numbered<Level>, Fault>
+        ensures { ReadNext (λ bytes l. SpellsRow signed (parts (kind_as self)) bytes (numbers (kind_as self) l)) reader.old reader.new result }
+    {
+        match self {
+            Kind::Money => {
+                let row = next_row::<i64, 1>(reader)?;
+                let [cents] = row.said;
+                Ok(Numbered {
+                    line: row.line,
+                    said: Level { cents, weeks: 0 },
+                })
+            }
+            Kind::MoneyThenWeeks => {
+                let row = next_row::<i64, 2>(reader)?;
+                let [cents, weeks] = row.said;
+                Ok(Numbered {
+                    line: row.line,
+                    said: Level { cents, weeks },
+                })
+            }
+        }
     }
-    Ok(level)
-}
 
-// The count under L: none, or one level for each node.
-fn next_level_count(reader: &mut Reader<'_>, nodes: u32) -> Result<u64, Fault>
-    ensures within { IfOk result (λ n. n ≤ nodes) }
-    ensures read { (x : Contents) → node_count (book_of x) ≡ nodes → LineRead (head LevelsSection) (λ n. n) x reader.old reader.new result }
-{
-    let line = reader.line_number();
-    let n = next_head(reader, Section::Levels)?;
-    let all = u64::from(nodes);
-    if n != 0 && n != all {
-        return Err(Fault {
-            refusal: Refusal::Layout,
-            line,
-        });
+    // The next line under L, a level.
+    pub(crate) fn next_level(self, reader: &mut Reader<'_>) -> Result<Level, Fault>
+        ensures { (x : Contents) → x.kind ≡ kind_as self → LineRead a_level (numbers (kind_as self)) x reader.old reader.new result }
+    {
+        self.next_numbers(reader)?.test(|level| self.test_level(level))
     }
-    Ok(n)
-}
-
-// So many lines under L, for which a table has room.
-fn next_levels(reader: &mut Reader<'_>, kind: Kind, n: u64) -> Result<Table<Level, 272>, Fault>
-    requires { n ≤ 272 }
-    ensures { (x : Contents) (due : List Slot) → x.kind ≡ kind_as kind → length x.levels ≡ 0 → MatchResult result (λ ls. Onward (replicate n a_level ++ due) x reader.old due (with_levels x (map (numbers (kind_as kind)) ls)) reader.new) (λ f. Stops (replicate n a_level ++ due) x reader.old f) }
-{
-    let mut levels = Table::new(Level { cents: 0, weeks: 0 });
-    for _ in 0..n {
-        let level = next_level(reader, kind)?;
-        let _ = levels.push(level);
-    }
-    Ok(levels)
-}
-
-// The section of the levels, of which there are none or one for each of so many nodes.
-pub(crate) fn read_levels(
-    reader: &mut Reader<'_>,
-    kind: Kind,
-    nodes: u32,
-) -> Result<Table<Level, 272>, Fault>
-    requires { nodes ≤ 272 }
-    ensures { (x : Contents) (due : List Slot) → x.kind ≡ kind_as kind → node_count (book_of x) ≡ nodes → length x.levels ≡ 0 → MatchResult result (λ ls. Onward (head LevelsSection ∷ due) x reader.old due (with_levels x (map (numbers (kind_as kind)) ls)) reader.new) (λ f. Stops (head LevelsSection ∷ due) x reader.old f) }
-{
-    let n = next_level_count(reader, nodes)?;
-    next_levels(reader, kind, n)
 }

@@ -2,15 +2,13 @@
 #![tactic(auto)]
 
 mod bounds;
-mod heads;
-mod holdings;
+mod draft;
+mod entry;
 pub mod kind;
+mod kinds;
 pub mod level;
 mod levels;
-mod names;
 mod next;
 mod offer_head;
-mod offer_line;
-mod offers;
 pub mod record;
-mod sections;
+mod side;

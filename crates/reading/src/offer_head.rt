@@ -3,7 +3,7 @@ ghost use Rattle.tables.specs.Refusals.{First, refusal};
 ghost use Rattle.book.specs.Books.{line_count};
 ghost use Rattle.layout.specs.Layout.{offer, rules};
 ghost use Rattle.layout.specs.Records.{Contents, offer_of};
-ghost use Rattle.reading.specs.Offers.{head_said, as_head, FairHead};
+ghost use Rattle.reading.specs.Offers.{head_said, FairHead, HeadTested};
 ghost use Rattle.reading.specs.Reading.{LineRead};
 
 use super::next::next_row;
@@ -29,9 +29,7 @@ fn is_overfull(lines: u64, gives: u64, gets: u64) -> bool
 
 // The head that has these numbers, or the first rule that they break.
 fn test_head(numbers: [u64; 4], members: u32, lines: usize) -> Result<OfferHead, Refusal>
-    ensures fair { IfOk result (λ h. FairHead members lines h) }
-    ensures same { IfOk result (λ h. head_said h ≡ as_head numbers) }
-    ensures refused { (x : Contents) → length x.members ≡ members → line_count (map offer_of x.offers) ≡ lines → First (rules offer x (as_head numbers)) (refusal result) }
+    ensures { HeadTested members lines numbers result }
 {
     let [member, limit, gives, gets] = numbers;
     if member >= u64::from(members) {
@@ -63,7 +61,6 @@ pub(crate) fn next_offer_head(
     ensures fair { IfOk result (λ h. FairHead members lines h) }
     ensures read { (x : Contents) → length x.members ≡ members → line_count (map offer_of x.offers) ≡ lines → LineRead offer head_said x reader.old reader.new result }
 {
-    let line = reader.line_number();
-    let numbers = next_row::<u64, 4>(reader)?;
-    at_line(line, test_head(numbers, members, lines))
+    let row = next_row::<u64, 4>(reader)?;
+    at_line(row.line, test_head(row.said, members, lines))
 }

@@ -1,18 +1,22 @@
-use Rattle.std.proofs.Common.{◌≡◌, ap, ◌∙◌}
+use Rattle.std.proofs.Common.{◌≡◌}
 use Rattle.std.proofs.lemmas.Result.{err_from_is_err_and}
-use Rattle.text.specs.Faults.{result_at}
 use Rattle.text.specs.declared.line.Line.TheVariants as line
 use Rattle.reading.specs.Reading.{IsHead}
-use Rattle.reading.proofs.Nexts.{missing, refined, head_to, head_from, head_line}
+use Rattle.reading.proofs.Nexts.{missing, refined, unread, head_to, head_from, head_line}
 use Rattle.reading.proofs.next.next_head.Goals as goal
 
-pub returns-in_err-line : goal.returns-in_err-line
-returns-in_err-line c =
+pub returns-in_err-next : goal.returns-in_err-next
+returns-in_err-next c =
     let p = err_from_is_err_and c.from_residual.result c.from_residual.ensures.1 in
-    rw (p.1, p.2) (missing (IsHead c.args.section) c.in_err-line.ensures (head_line c.args.section))
+    rw (p.1, p.2) (missing (IsHead c.args.section) c.in_err-next.ensures (head_line c.args.section))
+
+pub returns-in_err-said : goal.returns-in_err-said
+returns-in_err-said c =
+    let p = err_from_is_err_and c.from_residual-in_err-said.result c.from_residual-in_err-said.ensures.1 in
+    let s = c.args.section in
+    rw (p.1, p.2) (unread (λ l n. l ≡ line.Head s n) (IsHead s) c.in_ok-next.next c.in_ok-next.ensures (head_from s _) c.line_number-line.result c.line_number-line.ensures c.head.result c.head.ensures _ c.in_err-said.ensures)
 
 pub returns : goal.returns
 returns c =
     let s = c.args.section in
-    let r = c.head.result in
-    refined (λ l n. l ≡ line.Head s n) (IsHead s) c.in_ok-line.line c.in_ok-line.ensures (head_to s _) (head_from s _) r c.head.ensures c.at_line.result (c.at_line.ensures ∙ ap (λ k. result_at k r) c.line_number-number.ensures)
+    (c.line_number-line.ensures, refined (λ l n. l ≡ line.Head s n) (IsHead s) c.in_ok-next.next c.in_ok-next.ensures (head_to s _) c.line_number-line.result c.head.result c.head.ensures _ c.in_ok-said.ensures)

@@ -1,0 +1,27 @@
+ghost use Rattle.std.specs.Prelude.{◌≡◌, length};
+ghost use Rattle.book.specs.Books.{line_count};
+ghost use Rattle.round.specs.Rounds.{book};
+
+use super::kind::Kind;
+use super::level::Level;
+use round::open_round::OpenRound;
+use tables::table::Table;
+use text::reader::Reader;
+
+mod beginning;
+mod holdings;
+mod levels;
+mod names;
+mod offers;
+mod sections;
+
+// What has been read so far of a record, and what is left of its text.
+#[derive(Drop)]
+pub(crate) struct Draft<'a> {
+    pub(crate) reader: Reader<'a>,
+    pub(crate) kind: Kind,
+    pub(crate) round: OpenRound,
+    pub(crate) units: Table<u32, 256>,
+    pub(crate) levels: Table<Level, 272>,
+    ghost counted: { length units ≡ line_count (book round).offers },
+}

@@ -1,0 +1,49 @@
+ghost use Rattle.std.specs.Prelude.{◌<◌, length};
+ghost use Rattle.round.specs.Offering.{made};
+ghost use Rattle.round.specs.Rounds.{book};
+ghost use Rattle.reading.specs.Drafts.{so_far, Gains};
+ghost use Rattle.reading.specs.Offers.{OfferAdded};
+ghost use Rattle.reading.specs.declared.entry.Entry.TheVariants.{Offer};
+
+use super::super::offer_head::{OfferHead, next_offer_head};
+use super::super::side::Side;
+use super::Draft;
+use book::line::Line;
+use round::open_round::OpenRound;
+use tables::table::Table;
+use text::fault::Fault;
+
+// Adds an offer that keeps the rules, so that the round does not refuse it. One with the limit 0 is made with the limit 1 and withdrawn.
+fn add_offer(round: &mut OpenRound, head: OfferHead, give: &[Line], get: &[Line])
+    ensures { OfferAdded (book round.old) (book round.new) (made head.member head.limit give.now get.now) }
+{
+    if head.limit > 0 {
+        let _ = round.offer(head.member, head.limit, give, get);
+    } else if let Ok(number) = round.offer(head.member, 1, give, get) {
+        let _ = round.withdraw(number);
+    }
+}
+
+impl Draft<'_> {
+    // The next offer, its head and under it its lines, as one more offer of the round.
+    pub(super) fn next_offer(&mut self) -> Result<(), Fault>
+        requires { length (so_far self.old).offers < 64 }
+        ensures { Gains Offer 1 self.old self.new result }
+    {
+        let items = self.round.item_names().len() as u32;
+        let members = self.round.member_names().len() as u32;
+        let lines = self.units.len();
+        let head = next_offer_head(&mut self.reader, members, lines)?;
+        let mut units = Table::new(0);
+        let gives = Side { items, give: &[] };
+        let give = gives.next_lines(&mut self.reader, head.gives, &mut units)?;
+        let gets = Side {
+            items,
+            give: give.as_slice(),
+        };
+        let get = gets.next_lines(&mut self.reader, head.gets, &mut units)?;
+        add_offer(&mut self.round, head, give.as_slice(), get.as_slice());
+        let _ = self.units.extend(units.as_slice());
+        Ok(())
+    }
+}

@@ -1,0 +1,93 @@
+ghost use Rattle.std.specs.Prelude.{◌≡◌, ◌+◌, ◌<◌, ◌≤◌, List, [], ◌∷◌, ◌++◌, map, length, IfOk, MatchResult};
+ghost use Rattle.tables.specs.Refusals.{when, First, refusal};
+ghost use Rattle.book.specs.Books.{Loop};
+ghost use Rattle.layout.specs.Layout.{HeadOfOffer, line_rules};
+ghost use Rattle.layout.specs.Records.{Contents, LineWithUnits, line_of};
+ghost use Rattle.reading.specs.Offers.{FairBelow, LineTested, Part, Within, LineAdded, LinesRead, LinesStop};
+
+use super::next::next_row;
+use book::line::Line;
+use tables::refusal::Refusal;
+use tables::table::Table;
+use terms::lines::{has_item, is_loop};
+use text::fault::{Fault, at_line};
+use text::reader::Reader;
+
+// A line of a side, and the units on it.
+#[derive(Clone, Copy)]
+pub(crate) struct FilledLine {
+    pub(crate) line: Line,
+    pub(crate) units: u32,
+}
+
+// A side of an offer over so many items: what it gets for these lines, or, where there are none, what it gives.
+#[derive(Clone, Copy)]
+pub(crate) struct Side<'a> {
+    pub(crate) items: u32,
+    pub(crate) give: &'a [Line],
+}
+
+impl Side<'_> {
+    // The line that has these numbers, or the first rule that they break. `above` has the lines of the side so far.
+    fn test_line(self, above: &[Line], numbers: [u64; 4]) -> Result<FilledLine, Refusal>
+        ensures { LineTested self.entry.items self.entry.give.now above.now numbers result }
+    {
+        let [item, limit, price, units] = numbers;
+        if item >= u64::from(self.items) {
+            return Err(Refusal::Unknown);
+        }
+        if limit < 1 || limit > 1000 || units > 1000 {
+            return Err(Refusal::Bounds);
+        }
+        if price > 1_000_000 {
+            return Err(Refusal::Price);
+        }
+        let line = Line {
+            item: item as u32,
+            limit: limit as u32,
+            price: price as u32,
+        };
+        if has_item(above, line.item) {
+            return Err(Refusal::Double);
+        }
+        if is_loop(self.give, &[line]) {
+            return Err(Refusal::Loop);
+        }
+        Ok(FilledLine {
+            line,
+            units: units as u32,
+        })
+    }
+
+    // The next line, as one of the side below these.
+    fn next_line(self, above: &[Line], reader: &mut Reader<'_>) -> Result<FilledLine, Fault>
+        ensures fair { IfOk result (λ l. FairBelow self.entry.items self.entry.give.now above.now l.line) }
+        ensures read { (p : Part) (x : Contents) (h : HeadOfOffer) (ls : List LineWithUnits) → Within p x self.entry.items self.entry.give.now → map line_of ls ≡ above.now → LineAdded p x h ls reader.old reader.new result }
+    {
+        let row = next_row::<u64, 4>(reader)?;
+        at_line(row.line, self.test_line(above, row.said))
+    }
+
+    // So many lines of the side, and their units at the end of a row.
+    pub(crate) fn next_lines(
+        self,
+        reader: &mut Reader<'_>,
+        n: u32,
+        units: &mut Table<u32, 256>,
+    ) -> Result<Table<Line, 256>, Fault>
+        requires { length units.old + n ≤ 256 }
+        ensures { MatchResult result (λ lines. LinesRead self.entry.items self.entry.give.now n 0 lines units.old units.new reader.old reader.new) (λ f. LinesStop self.entry.items self.entry.give.now n reader.old f) }
+    {
+        let mut lines = Table::new(Line {
+            item: 0,
+            limit: 0,
+            price: 0,
+        });
+        for _ in 0..n {
+            let filled = self.next_line(lines.as_slice(), reader)?;
+            let _ = lines.push(filled.line);
+            let _ = units.push(filled.units);
+        }
+        Ok(lines)
+    }
+}

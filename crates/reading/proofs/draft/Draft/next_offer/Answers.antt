@@ -4,7 +4,6 @@ use Rattle.std.proofs.lemmas.Result.{err_from_is_err_and}
 use Rattle.tables.proofs.Entries.{grew}
 use Rattle.book.specs.Books.{line_count}
 use Rattle.layout.specs.Records.{offer_of}
-use Rattle.terms.specs.Names.{letters}
 use Rattle.round.specs.Rounds.{book}
 use Rattle.reading.specs.Drafts.{so_far}
 use Rattle.reading.specs.declared.entry.Entry.TheVariants.{Offer}
@@ -21,7 +20,7 @@ returns-in_err-head c =
     let us = d.units in
     let x = so_far d in
     let names = c.member_names.result.now in
-    let members : length x.members ≡ length names = ap length (sym c.member_names.ensures) ∙ length-map names letters in
+    let members : length x.members ≡ length names = ap length (sym c.member_names.ensures) in
     let lines : line_count (map offer_of x.offers) ≡ c.len-lines.result = sym (units_counted x.offers) ∙ ap length (units_held (book d.round).offers us d.counted) ∙ sym c.len-lines.ensures.count in
     rw (p.1, p.2) (c.in_err-head.ensures.read x members lines)
 
@@ -34,7 +33,7 @@ after-head c =
     let items = c.item_names.result.now in
     let members = c.member_names.result.now in
     let head = c.in_ok-head.ensures in
-    begun (so_far d) b us (length items) (length members) c.len-lines.result c.in_ok-head.head d.reader c.next_offer_head.new.reader (book_held d.kind b us d.levels) (units_held b.offers us d.counted) c.requires (sym (length-map items letters) ∙ ap length c.item_names.ensures) (sym (length-map members letters) ∙ ap length c.member_names.ensures) c.len-lines.ensures.count head.fair head.read
+    begun (so_far d) b us (length items) (length members) c.len-lines.result c.in_ok-head.head d.reader c.next_offer_head.new.reader (book_held d.kind b us d.levels) (units_held b.offers us d.counted) c.requires (ap length c.item_names.ensures) (ap length c.member_names.ensures) c.len-lines.ensures.count head.fair head.read
 
 pub returns-in_err-give : goal.returns-in_err-give
 returns-in_err-give c =

@@ -1,6 +1,6 @@
 -- The record of a closed round and levels: when it is refused, and that it reads back.
 use Rattle.std.proofs.Common.{◌≡◌, ℕ, suc, ◌<◌, ◌≤◌, List, [], ◌∷◌, ◌++◌, map, length, get_or, take, drop, ℤ, Ok, Err, Result, sym, refl, ap, ◌∙◌, subst, ⊎_elim, map-id, arith}
-use Rattle.std.specs.List.{AllWithin, AllByRecursion}
+use Rattle.std.specs.List.{AllByRecursion}
 use Rattle.std.proofs.ByRecursion.{All-from_get_or, All-map}
 use Rattle.std.proofs.lemmas.List.{get_or_default, get_or-map, get_or_past, length-map, length-take, take_all, take-map}
 use Rattle.std.proofs.lemmas.Bool.{cases_lt}
@@ -36,10 +36,6 @@ use Rattle.record.specs.Files.{filed, Files}
 use Rattle.record.specs.Levels.{Levelled}
 use Rattle.record.specs.Writing.{Adds}
 use Rattle.record.proofs.Unique.{book_sound}
-
--- no worth up to the end is over
-pub none_over : {W : Type 0} (o : Ops W) (ws : List W) (i : ℕ) → AllWithin (λ w. o.size w ≤ 1000000) ws 0 i → length ws ≤ i → Any (λ w. 1000000 < o.size w) ws → ⊥
-none_over o ws i every end any = omega (arith, any.2 o.none, every any.0 o.none (omega arith) (omega (arith, any.1)))
 
 -- the section of the names with these letters
 pub names_section : (which : Section) (names : List Name) (xs : List (List ℕ)) → map letters names ≡ xs → spell (head which) (length names) ∷ map letters names ≡ section which item xs

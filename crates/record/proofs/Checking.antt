@@ -1,8 +1,8 @@
 -- What check finds: whether an allotment is allowed, and what each offer comes to.
-use Rattle.std.proofs.Common.{◌≡◌, ℕ, zero, suc, ◌+◌, ◌*◌, ◌<◌, ◌≤◌, cond, eqb, ◌≢◌, ◌⊎◌, List, [], ◌∷◌, ◌++◌, map, length, get_or, take, ℤ, pos, ◌-ℤ◌, Some, Ok, Err, Result, MatchResult, sym, refl, ap, ◌∙◌, subst, inl, inr, ⊎_elim, arith}
+use Rattle.std.proofs.Common.{◌≡◌, ℕ, zero, suc, ◌*◌, ◌<◌, ◌≤◌, cond, eqb, ◌≢◌, ◌⊎◌, List, [], ◌∷◌, map, length, ℤ, pos, ◌-ℤ◌, Some, Ok, Err, Result, MatchResult, sym, refl, ap, ◌∙◌, subst, inl, inr, ⊎_elim, arith}
 use mathlib.Core.Logic.{∥∥₁_elim}
 use native.Mathlib.Bridge.{le_prop}
-use Rattle.std.proofs.lemmas.List.{take_more, length-map, length-take-le}
+use Rattle.std.proofs.lemmas.List.{length-map}
 use Rattle.std.proofs.lemmas.Bool.{cases_lt, cases_eq}
 use Rattle.worth.specs.Kinds.{Ops}
 use Rattle.worth.specs.Money.{money}
@@ -19,7 +19,7 @@ use Rattle.network.specs.Networks.{Net, flow_in, graph, value}
 use Rattle.network.proofs.Circulations.{circulation, circulates}
 use Rattle.book.specs.Allotments.{Units, Allotment, Allowed, Alike, AlikeOn, payoff, weeks_of}
 use Rattle.book.specs.Arcs.{net_of, filling, filled}
-use Rattle.book.specs.Books.{Book, Offer, Sound, no_offer}
+use Rattle.book.specs.Books.{Book, Offer, Sound}
 use Rattle.book.specs.Rows.{map_with}
 use Rattle.book.proofs.Best.{allowed_is_circulation_lem}
 use Rattle.book.proofs.Filled.{sum_with_alike}
@@ -67,16 +67,6 @@ not_exceeding b a s (i, l, h) w =
 
 pub circulating : (b : Book) (a : Allotment) → Sound b → Allowed b a → Circulates (filled b a)
 circulating b a s w = circulates money (filled b a) (subst (λ (N : Graph _). Circulation N (flow_in (filled b a))) (same_graph b a) ((allowed_is_circulation_lem money b a s).0 w).balanced)
-
--- one entry more
-map_with_push : {X U Y : Type 0} (f : X → U → Y) (xs : List X) (x : X) (u : ℕ → U) → map_with f (xs ++ x ∷ []) u ≡ map_with f xs u ++ f x (u (length xs)) ∷ []
-map_with_push f [] x u = refl
-map_with_push f (y ∷ ys) x u = ap (λ l. f y (u 0) ∷ l) (map_with_push f ys x (λ k. u (suc k)))
-
-pub results_more : (os : List Offer) (a : Allotment) (k : ℕ) → k < length os → map_with result_of (take (k + 1) os) a ≡ map_with result_of (take k os) a ++ result_of (get_or os k no_offer) (a k) ∷ []
-results_more os a k l =
-    ap (λ xs. map_with result_of xs a) (take_more os k no_offer l) ∙ map_with_push result_of (take k os) (get_or os k no_offer) a
-    ∙ ap (λ n. map_with result_of (take k os) a ++ result_of (get_or os k no_offer) (a n) ∷ []) (length-take-le k os (omega arith))
 
 -- allotments that are alike come to the same
 result_alike : (o : Offer) (u w : Units) → AlikeOn o u w → result_of o u ≡ result_of o w

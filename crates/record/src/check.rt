@@ -26,7 +26,7 @@ use worth::lexicographic::Lexicographic;
 use worth::money::Money;
 use worth::weeks::Weeks;
 
-// Puts the worths that levels stand for in the first places of a table.
+// Puts the worths that levels stand for in the first places of a table, place by place: std does not say what a `zip` with `iter_mut` has written.
 fn put_worths<W: Levelled>(levels: &[Level], table: &mut [W])
     requires { length levels.now ≤ length table.old }
     ensures { map (λ w. numbers W.Levelled.sort (W.Levelled.level w)) (take (length levels.now) table.new) ≡ map (numbers W.Levelled.sort) levels.now }
@@ -48,7 +48,7 @@ fn results<W: Worth>(round: &ClosedRound<W>) -> Table<OfferResult, 64>
     results
 }
 
-// What check answers of a record of this kind, where its allotment is allowed and its levels fit.
+// What check answers of a record of this kind, where its allotment is allowed and its levels fit. The table of its worths fits in memory.
 fn check_by<W: Levelled + Into<Total>>(read: Record) -> Result<Passed, Refusal>
     requires { 272 * type_size W.row < 2 ^ 63 }
     ensures { Valid (contents read) → (contents read).kind ≡ W.Levelled.sort → Tested W.Worth.ops W.Into.converts (contents read) result }

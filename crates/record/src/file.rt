@@ -42,7 +42,5 @@ pub fn file<W: Levelled>(
     if first.len() < nodes {
         return Err(Refusal::Short);
     }
-    let mut draft = Draft::new();
-    draft.record(round, first);
-    draft.text.copy_to(page)
+    Draft::of(round, first).text.copy_to(page)
 }

@@ -1,7 +1,8 @@
-ghost use Rattle.std.specs.Prelude.{◌≡◌, ◌*◌, ◌^◌, ◌<◌, Decides};
+ghost use Rattle.std.specs.Prelude.{◌≡◌, ◌*◌, ◌^◌, ◌<◌, nat_lt, Decides};
 ghost use Rattle.std.specs.Mem.{type_size};
 ghost use Rattle.std.specs.List.{AllByRecursion};
 ghost use Rattle.reading.specs.Contents.{contents};
+ghost use Rattle.round.specs.Questions.{offer_at};
 ghost use Rattle.round.specs.Rounds.{book};
 ghost use Rattle.record.specs.Evidence.{Evidence};
 ghost use Rattle.record.specs.Sheets.{Sheet, ClearedRound, Clearing};
@@ -23,11 +24,18 @@ fn are_zero(units: &[u32]) -> bool
     units.iter().all(|u| *u == 0)
 }
 
+// Whether there is an offer of a number that is not withdrawn.
+fn is_standing(round: &OpenRound, k: u32) -> bool
+    ensures { result ≡ nat_lt 0 (offer_at (book round.now) k).limit }
+{
+    round.offer_at(k).is_some_and(|offer| offer.limit > 0)
+}
+
 // Whether no offer of a round is withdrawn.
 fn are_standing(round: &OpenRound) -> bool
     ensures { Decides result (AllByRecursion (λ o. 0 < o.limit) (book round.now).offers) }
 {
-    (0..round.offer_count()).all(|k| round.offer_at(k).is_some_and(|offer| offer.limit > 0))
+    (0..round.offer_count()).all(|k| is_standing(round, k))
 }
 
 // Whether a record is a sheet: no levels, no units and no withdrawn offer.
@@ -37,7 +45,7 @@ pub fn is_sheet(read: &Record) -> bool
     read.levels().is_empty() && are_zero(read.units()) && are_standing(read.terms())
 }
 
-// Clears a round by a kind of worth and files the record.
+// Clears a round by a kind of worth, whose work table fits in memory, and files the record.
 fn clear_by<W: Levelled>(round: OpenRound, page: &mut [u8]) -> Result<usize, Refusal>
     requires { 272 * type_size W.row < 2 ^ 63 }
     ensures { ClearedRound W.Levelled.sort (book round) page.old page.new result }

@@ -1,10 +1,9 @@
-ghost use Rattle.std.specs.Prelude.{◌≡◌, [], map};
+ghost use Rattle.std.specs.Prelude.{◌≡◌, map, take};
 ghost use Rattle.text.specs.Buffers.{written};
 ghost use Rattle.layout.specs.Records.{contents_of};
-ghost use Rattle.layout.specs.Render.{lines_of};
+ghost use Rattle.layout.specs.Render.{render};
 ghost use Rattle.reading.specs.Levels.{numbers};
 ghost use Rattle.round.specs.Closed.{closed_book, closed_allotment};
-ghost use Rattle.record.specs.Writing.{Adds};
 
 use super::super::levelled::Levelled;
 use round::closed_round::ClosedRound;
@@ -18,24 +17,20 @@ pub(super) struct Draft {
 }
 
 impl Draft {
-    pub(super) fn new() -> Draft
-        ensures { written result.text ≡ [] }
+    // The record of a round, its allotment and these levels, section by section, as far as it fits.
+    pub(super) fn of<W: Levelled>(round: &ClosedRound<W>, levels: &[W]) -> Draft
+        ensures { written result.text ≡ take 32768 (render (contents_of W.Levelled.sort (closed_book round.now) (closed_allotment round.now) (map (λ w. numbers W.Levelled.sort (W.Levelled.level w)) levels.now))) }
     {
-        Draft {
+        let mut draft = Draft {
             text: Buffer::new(),
-        }
-    }
-
-    // The record of a round, its allotment and these levels, section by section.
-    pub(super) fn record<W: Levelled>(&mut self, round: &ClosedRound<W>, levels: &[W])
-        ensures { Adds self.old.text self.new.text (lines_of (contents_of W.Levelled.sort (closed_book round.now) (closed_allotment round.now) (map (λ w. numbers W.Levelled.sort (W.Levelled.level w)) levels.now))) }
-    {
+        };
         let terms = round.terms();
-        self.kind(W::kind());
-        self.names(Section::Items, terms.item_names());
-        self.names(Section::Members, terms.member_names());
-        self.holdings(terms.held());
-        self.offers(round);
-        self.levels(levels);
+        draft.kind(W::kind());
+        draft.names(Section::Items, terms.item_names());
+        draft.names(Section::Members, terms.member_names());
+        draft.holdings(terms.held());
+        draft.offers(round);
+        draft.levels(levels);
+        draft
     }
 }

@@ -25,14 +25,18 @@ pub(super) struct FilledOffers<'a> {
     ghost own: { units.now ≡ units_in (drop next (contents read.now).offers) },
 }
 
-// All offers of a record.
-pub(super) fn filled_offers(read: &Record) -> FilledOffers<'_>
-    ensures { drop result.next (contents result.read.now).offers ≡ (contents read.now).offers }
-{
-    FilledOffers {
-        read,
-        next: 0,
-        units: read.units(),
+impl<'a> FilledOffers<'a> {
+    ghost use Rattle.record.specs.Filled.{left};
+
+    // All offers of a record.
+    pub(super) fn of(read: &'a Record) -> FilledOffers<'a>
+        ensures { left result ≡ (contents read.now).offers }
+    {
+        FilledOffers {
+            read,
+            next: 0,
+            units: read.units(),
+        }
     }
 }
 

@@ -5,7 +5,7 @@ ghost use Rattle.reading.specs.Contents.{contents};
 ghost use Rattle.record.specs.Filled.{filled, given_in};
 ghost use Rattle.record.specs.Flows.{flow_row, given_from, flows_of};
 
-use super::filled::{FilledOffer, filled_offers};
+use super::filled::{FilledOffer, FilledOffers};
 use book::holding::Holding;
 use reading::record::Record;
 use tables::table::Table;
@@ -23,8 +23,10 @@ impl<'a> FilledOffer<'a> {
     fn given_of(self, item: u32) -> u32
         ensures { result ≡ of_item item self.entry.offer.give.now (λ t. slice_index self.entry.given.now t) }
     {
-        let lines = self.offer.give.iter().zip(self.given);
-        lines
+        self.offer
+            .give
+            .iter()
+            .zip(self.given)
             .filter(|(line, _)| line.item == item)
             .map(|(_, units)| *units)
             .sum()
@@ -56,7 +58,9 @@ impl<'a> FilledOffer<'a> {
 fn given_from(record: &Record, h: Holding) -> u32
     ensures { result ≡ given_from (contents «record».now) h }
 {
-    filled_offers(record).map(|offer| offer.given_from(h)).sum()
+    FilledOffers::of(record)
+        .map(|offer| offer.given_from(h))
+        .sum()
 }
 
 // The flows on the arcs of the holdings.
@@ -75,7 +79,7 @@ pub(super) fn flows_of(record: &Record) -> Table<u32, 448>
     ensures { entries result ≡ flows_of (contents «record».now) }
 {
     let mut flows = holding_flows(record);
-    for offer in filled_offers(record) {
+    for offer in FilledOffers::of(record) {
         offer.add_to(&mut flows);
     }
     flows

@@ -8,7 +8,8 @@ use Rattle.book.proofs.Sums.{length_map_with}
 use Rattle.round.specs.Closed.{closed_book, closed_allotment}
 use Rattle.record.specs.Checks.{result_of}
 use Rattle.record.specs.declared.passed.OfferResult.{OfferResult}
-use Rattle.record.proofs.Checking.{results_more, few_offers, paid}
+use Rattle.record.proofs.Checking.{few_offers, paid}
+use Rattle.record.proofs.Offered.{with_more}
 use Rattle.record.proofs.check.results.Goals as goal
 
 pub loop-k-init : goal.loop-k-init
@@ -34,7 +35,7 @@ loop-k-preserved g c =
     let says : ◌≡◌ {A = OfferResult} (record { payoff = found.0.0; weeks = found.0.1 }) (result_of (get_or os k no_offer) (a k)) = (λ i. record { payoff = found.2.0 i; weeks = found.2.1 i }) in
     grew 64 (entries c.loop-k.results) (entries c.push.new.self) (c.into.result ∷ []) c.push.result c.push.ensures (omega arith)
     ∙ (λ i. c.loop-k.invariant i ++ (c.into.ensures ∙ ap (λ (p : _ × _). record { payoff = p.0; weeks = p.1 }) same ∙ says) i ∷ [])
-    ∙ sym (results_more os a k lt)
+    ∙ sym (with_more result_of os a k no_offer lt)
 
 pub returns : goal.returns
 returns g c =

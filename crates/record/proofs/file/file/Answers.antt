@@ -25,4 +25,4 @@ returns g c =
     let is = ap (λ n. take n ws) c.min.ensures ∙ take_min _ ws ∙ ap (λ n. take n ws) c.counts-nodes.ensures.0 in
     let none = not_from_Decides _ c.is_over.ensures c.if-is_over.false in
     let enough = subst (λ n. n ≤ length first) c.counts-nodes.ensures.0 c.if-first-nodes.false in
-    record { outcome = files_copied g.met.W.Levelled.told c.args.round.now ws first is none c.new-draft.result.text c.record.new.self.text c.args.page.now c.copy_to.new.page c.copy_to.result c.new-draft.ensures enough c.record.ensures c.copy_to.ensures; law = evidence }
+    record { outcome = files_copied g.met.W.Levelled.told c.args.round.now ws first is none c.of.result.text c.args.page.now c.copy_to.new.page c.copy_to.result enough c.of.ensures c.copy_to.ensures; law = evidence }

@@ -12,10 +12,10 @@ pub sum-requires-clause-fits : goal.sum-requires-clause-fits
 sum-requires-clause-fits c =
     let r = c.args.record.now in
     let h = c.args.h in
-    fits_by_from_yields_list (given_in h) (contents r).offers c.map.result _ (YieldsList-from_map _ (given_in h) (YieldsList-at c.map.ensures.source (YieldsList-from_first filled left (contents r).offers c.filled_offers.ensures)) c.map.ensures.closure (λ x r q k. search (rules, tests))) (given_fits h (contents r) (bounded r))
+    fits_by_from_yields_list (given_in h) (contents r).offers c.map.result _ (YieldsList-from_map _ (given_in h) (YieldsList-at c.map.ensures.source (YieldsList-from_first filled left (contents r).offers c.of.ensures)) c.map.ensures.closure (λ x r q k. search (rules, tests))) (given_fits h (contents r) (bounded r))
 
 pub returns : goal.returns
 returns c =
     let r = c.args.record.now in
     let h = c.args.h in
-    sum_by_from_yields_List (given_in h) (contents r).offers c.map.result c.sum.result c.sum.ensures.ran (YieldsList-from_map _ (given_in h) (YieldsList-at c.map.ensures.source (YieldsList-from_first filled left (contents r).offers c.filled_offers.ensures)) c.map.ensures.closure (λ x r q k. search (rules, tests))) ∙ given_sum h (contents r).offers
+    sum_by_from_yields_List (given_in h) (contents r).offers c.map.result c.sum.result c.sum.ensures.ran (YieldsList-from_map _ (given_in h) (YieldsList-at c.map.ensures.source (YieldsList-from_first filled left (contents r).offers c.of.ensures)) c.map.ensures.closure (λ x r q k. search (rules, tests))) ∙ given_sum h (contents r).offers

@@ -9,10 +9,10 @@ pub sum-requires-clause-fits : goal.sum-requires-clause-fits
 sum-requires-clause-fits c =
     let f = c.args.self in
     let j = c.args.item in
-    fits_from_yields_list c.map.result _ (YieldsList-from_map _ (λ p. p.1) (YieldsList-at c.map.ensures.source (YieldsList-from_filter _ (λ p. eqb p.0.item j) (YieldsList-at c.filter.ensures.source (YieldsList-from_zip (YieldsList-at c.zip-lines.ensures.first (YieldsList-from_slice f.offer.give.now (cc))) (YieldsList-from_slice f.given.now (cc)))) c.filter.ensures.closure (λ x r q k. search (rules, tests)))) c.map.ensures.closure (λ x r q k. search (rules, tests))) (item_fits j f.offer.give.now f.given.now f.gives)
+    fits_from_yields_list c.map.result _ (YieldsList-from_map _ (λ p. p.1) (YieldsList-at c.map.ensures.source (YieldsList-from_filter _ (λ p. eqb p.0.item j) (YieldsList-at c.filter.ensures.source (YieldsList-from_zip (YieldsList-at c.zip.ensures.first (YieldsList-from_slice f.offer.give.now (cc))) (YieldsList-from_slice f.given.now (cc)))) c.filter.ensures.closure (λ x r q k. search (rules, tests)))) c.map.ensures.closure (λ x r q k. search (rules, tests))) (item_fits j f.offer.give.now f.given.now f.gives)
 
 pub returns : goal.returns
 returns c =
     let f = c.args.self in
     let j = c.args.item in
-    sum_from_yields_List c.map.result c.sum.result c.sum.ensures.ran (YieldsList-from_map _ (λ p. p.1) (YieldsList-at c.map.ensures.source (YieldsList-from_filter _ (λ p. eqb p.0.item j) (YieldsList-at c.filter.ensures.source (YieldsList-from_zip (YieldsList-at c.zip-lines.ensures.first (YieldsList-from_slice f.offer.give.now (cc))) (YieldsList-from_slice f.given.now (cc)))) c.filter.ensures.closure (λ x r q k. search (rules, tests)))) c.map.ensures.closure (λ x r q k. search (rules, tests))) ∙ item_summed j f.offer.give.now f.given.now f.gives.long
+    sum_from_yields_List c.map.result c.sum.result c.sum.ensures.ran (YieldsList-from_map _ (λ p. p.1) (YieldsList-at c.map.ensures.source (YieldsList-from_filter _ (λ p. eqb p.0.item j) (YieldsList-at c.filter.ensures.source (YieldsList-from_zip (YieldsList-at c.zip.ensures.first (YieldsList-from_slice f.offer.give.now (cc))) (YieldsList-from_slice f.given.now (cc)))) c.filter.ensures.closure (λ x r q k. search (rules, tests)))) c.map.ensures.closure (λ x r q k. search (rules, tests))) ∙ item_summed j f.offer.give.now f.given.now f.gives.long

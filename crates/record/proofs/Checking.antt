@@ -1,15 +1,15 @@
 -- What check finds: whether an allotment is allowed, and what each offer comes to.
-use Rattle.std.proofs.Common.{◌≡◌, ℕ, zero, suc, ◌+◌, ◌*◌, ◌<◌, ◌≤◌, cond, eqb, ◌≢◌, ◌⊎◌, List, [], ◌∷◌, ◌++◌, length, get_or, take, pos, ◌-ℤ◌, Some, Ok, Err, Result, sym, refl, ap, ◌∙◌, subst, inl, inr, ⊎_elim, arith}
+use Rattle.std.proofs.Common.{◌≡◌, ℕ, zero, suc, ◌*◌, ◌<◌, ◌≤◌, cond, eqb, ◌≢◌, ◌⊎◌, List, [], ◌∷◌, map, length, ℤ, pos, ◌-ℤ◌, Some, Ok, Err, Result, MatchResult, sym, refl, ap, ◌∙◌, subst, inl, inr, ⊎_elim, arith}
 use mathlib.Core.Logic.{∥∥₁_elim}
 use native.Mathlib.Bridge.{le_prop}
-use Rattle.std.proofs.lemmas.List.{take_more, length-take-le}
+use Rattle.std.proofs.lemmas.List.{length-map}
 use Rattle.std.proofs.lemmas.Bool.{cases_lt, cases_eq}
-use Rattle.tables.specs.declared.table.Table.{Table}
 use Rattle.worth.specs.Kinds.{Ops}
 use Rattle.worth.specs.Money.{money}
 use Rattle.worth.specs.Integers.{money_laws}
-use Rattle.tables.specs.Refusals.{when, First, number, refusal}
+use Rattle.tables.specs.Refusals.{when, First}
 use Rattle.tables.specs.declared.refusal.Refusal.{Refusal}
+use Rattle.tables.proofs.Firsts.{accepted}
 use Rattle.flow.specs.Arcs.{arc_at}
 use Rattle.flow.specs.declared.arc.Arc.{Arc}
 use Rattle.flow.specs.Graphs.{Graph, Within, Circulation}
@@ -17,9 +17,9 @@ use Rattle.flow.specs.Groups.{kind}
 use Rattle.network.specs.Circulations.{Circulates}
 use Rattle.network.specs.Networks.{Net, flow_in, graph, value}
 use Rattle.network.proofs.Circulations.{circulation, circulates}
-use Rattle.book.specs.Allotments.{Units, Allotment, Allowed, Alike, AlikeOn}
+use Rattle.book.specs.Allotments.{Units, Allotment, Allowed, Alike, AlikeOn, payoff, weeks_of}
 use Rattle.book.specs.Arcs.{net_of, filling, filled}
-use Rattle.book.specs.Books.{Book, Offer, Sound, no_offer}
+use Rattle.book.specs.Books.{Book, Offer, Sound}
 use Rattle.book.specs.Rows.{map_with}
 use Rattle.book.proofs.Best.{allowed_is_circulation_lem}
 use Rattle.book.proofs.Filled.{sum_with_alike}
@@ -28,12 +28,17 @@ use Rattle.text.specs.Faults.{fault_at}
 use Rattle.layout.specs.Records.{Kind, Contents, book_of, allotted, Valid}
 use Rattle.layout.specs.Runs.{Reads}
 use Rattle.layout.proofs.Renders.{reads_records}
+use Rattle.reading.specs.Contents.{contents}
+use Rattle.reading.specs.Levels.{numbers}
+use Rattle.reading.specs.declared.level.Level.{Level}
+use Rattle.reading.specs.declared.record.Record.{Record}
+use Rattle.round.specs.Questions.{offer_at, AnswersPayoff}
 use Rattle.round.specs.Rounds.{book}
 use Rattle.round.specs.declared.open_round.OpenRound.{OpenRound}
-use Rattle.record.specs.Checks.{total_by, result_of, failing, Shown, Answered, Fails}
+use Rattle.record.specs.Checks.{total_by, result_of, failing, Tested, Answered, Fails}
 use Rattle.record.specs.Evidence.{network_of, Passes}
 use Rattle.record.specs.Networks.{Exceeds}
-use Rattle.record.specs.declared.passed.OfferResult.{OfferResult}
+use Rattle.record.specs.declared.passed.Passed.{Passed}
 use Rattle.record.specs.declared.passed.Total.{Total}
 
 -- some flow of the first k arcs exceeds its capacity
@@ -62,16 +67,6 @@ not_exceeding b a s (i, l, h) w =
 
 pub circulating : (b : Book) (a : Allotment) → Sound b → Allowed b a → Circulates (filled b a)
 circulating b a s w = circulates money (filled b a) (subst (λ (N : Graph _). Circulation N (flow_in (filled b a))) (same_graph b a) ((allowed_is_circulation_lem money b a s).0 w).balanced)
-
--- one entry more
-map_with_push : {X U Y : Type 0} (f : X → U → Y) (xs : List X) (x : X) (u : ℕ → U) → map_with f (xs ++ x ∷ []) u ≡ map_with f xs u ++ f x (u (length xs)) ∷ []
-map_with_push f [] x u = refl
-map_with_push f (y ∷ ys) x u = ap (λ l. f y (u 0) ∷ l) (map_with_push f ys x (λ k. u (suc k)))
-
-pub results_more : (os : List Offer) (a : Allotment) (k : ℕ) → k < length os → map_with result_of (take (k + 1) os) a ≡ map_with result_of (take k os) a ++ result_of (get_or os k no_offer) (a k) ∷ []
-results_more os a k l =
-    ap (λ xs. map_with result_of xs a) (take_more os k no_offer l) ∙ map_with_push result_of (take k os) (get_or os k no_offer) a
-    ∙ ap (λ n. map_with result_of (take k os) a ++ result_of (get_or os k no_offer) (a n) ∷ []) (length-take-le k os (omega arith))
 
 -- allotments that are alike come to the same
 result_alike : (o : Offer) (u w : Units) → AlikeOn o u w → result_of o u ≡ result_of o w
@@ -113,23 +108,29 @@ undrawn x n s f = go (some_exceeds (network_of x).arcs (length (network_of x).ar
     go (inl e) = (λ _. f.0 e, λ stable. absurd (stable (not_exceeding (book_of x) (allotted x) s e)))
     go (inr none) = let e = f.1 none in let z : ◌≡◌ {A = ℕ} 0 1 = cc in absurd (omega arith)
 
--- a question that is refused only past the end is answered before it
-pub answered : {X : Type 0} (r : Result X Refusal) (k n : ℕ) → First (when 1 (n ≤ k) ∷ []) (refusal r) → k < n → (x : X) × (r ≡ Ok x)
-answered (Ok x) k n f l = (x, refl)
-answered (Err e) k n f l = let q = f.1 (λ h. omega arith) in let z : ◌≡◌ {A = ℕ} 0 1 = cc in absurd (omega arith)
+-- an offer that there is has its payoff
+pub paid : (b : Book) (a : Allotment) (k : ℕ) (r : Result (ℤ × ℕ) Refusal) → AnswersPayoff b a k r → k < length b.offers → (p : ℤ × ℕ) × (r ≡ Ok p) × ((p.0 ≡ payoff (offer_at b k) (a k)) × (p.1 ≡ weeks_of (offer_at b k) (a k)))
+paid b a k r h known = accepted (λ p. (p.0 ≡ payoff (offer_at b k) (a k)) × (p.1 ≡ weeks_of (offer_at b k) (a k))) (λ _. Unit {0}) r (h.refused.1 (λ le. omega arith)) h.answer
 
 -- at most as many levels as a network has nodes
-pub few_levels : (x : Contents) → Valid x → length x.levels ≤ 272
+few_levels : (x : Contents) → Valid x → length x.levels ≤ 272
 few_levels x v = ⊎_elim (λ e. omega arith) (λ e. omega (arith, e, v.sound.items_few, v.sound.holdings_few, v.sound.offers_few)) v.levelled
+
+-- and so has what was read
+pub levels_few : (r : Record) (ls : List Level) → map (numbers (contents r).kind) ls ≡ (contents r).levels → length ls ≤ 272
+levels_few r ls e = let few : length (contents r).levels ≤ 272 = ∥∥₁_elim r.valid le_prop (few_levels (contents r)) in omega (arith, few, ap length e, length-map ls (numbers (contents r).kind))
 
 -- what is read keeps the rules
 pub valid_read : (text : List ℕ) (x : Contents) → Reads text x → Valid x
 valid_read text x r = ((reads_records text x).0 r).1
 
-pub fails : (text : List ℕ) (x : Contents) (e : Refusal) → Reads text x → First (failing x) (Some (number e)) → Fails text (fault_at 0 e)
-fails text x e r f = record { contents = x; reads = r; first = f; line = refl }
+-- what check answers of a text that reads
+abbrev pub Told : List ℕ → Result Passed Refusal → Type 0
+Told text r = MatchResult r (λ p. (y : Contents) × Passes text y × Answered y p) (λ e. Fails text (fault_at 0 e))
 
-module _ {W : Type 0} {o : Ops W} (text : List ℕ) (x : Contents) (k : Kind) (told : x.kind ≡ k) (total : W → Total) (is : (n : Net) → total (value o n) ≡ total_by k n) where
-  -- what a text that passes is answered with
-  pub passed : (w : W) (offers : Table OfferResult 64) → Reads text x → Shown o x w offers → (y : Contents) × Passes text y × Answered y (record { worth = total w; offers = offers })
-  passed w offers r s = (x, record { reads = r; allowed = s.allowed; fits = s.fits }, record { worth = ap total s.worth_is ∙ is (network_of x) ∙ (λ i. total_by (sym told i) (network_of x)); offers = s.results_are })
+-- it is answered so once its contents are tested by their kind
+pub checked : {W : Type 0} {o : Ops W} {converts : W → Total → Type 0} (text : List ℕ) (x : Contents) (k : Kind) → x.kind ≡ k → ((n : Net) (t : Total) → converts (value o n) t → t ≡ total_by k n) → Reads text x → (r : Result Passed Refusal) → Tested o converts x r → Told text r
+checked text x k told is reads (Ok p) t =
+    let s = t.outcome in
+    (x, record { reads = reads; allowed = s.allowed; fits = s.fits }, record { worth = is (network_of x) p.worth s.worth_is ∙ (λ i. total_by (sym told i) (network_of x)); offers = s.results_are })
+checked text x k told is reads (Err e) t = record { contents = x; reads = reads; first = t.refused; line = refl }

@@ -1,6 +1,6 @@
 -- The record of a closed round and levels: when it is refused, and that it reads back.
 use Rattle.std.proofs.Common.{◌≡◌, ℕ, suc, ◌<◌, ◌≤◌, List, [], ◌∷◌, ◌++◌, map, length, get_or, take, drop, ℤ, Ok, Err, Result, sym, refl, ap, ◌∙◌, subst, ⊎_elim, map-id, arith}
-use Rattle.std.specs.List.{AllWithin, AllByRecursion}
+use Rattle.std.specs.List.{AllByRecursion}
 use Rattle.std.proofs.ByRecursion.{All-from_get_or, All-map}
 use Rattle.std.proofs.lemmas.List.{get_or_default, get_or-map, get_or_past, length-map, length-take, take_all, take-map}
 use Rattle.std.proofs.lemmas.Bool.{cases_lt}
@@ -22,7 +22,7 @@ use Rattle.book.specs.Books.{Book, Offer, Any}
 use Rattle.book.specs.Rows.{AllWith}
 use Rattle.book.specs.declared.line.Line.{Line}
 use Rattle.layout.specs.Layout.{head, item, spell}
-use Rattle.layout.specs.Records.{Kind, by_money, by_money_then_weeks, parts, contents_of, level_size, FairLevel, FairAllotment}
+use Rattle.layout.specs.Records.{Contents, Kind, by_money, by_money_then_weeks, parts, contents_of, level_size, FairLevel, FairAllotment}
 use Rattle.layout.specs.Render.{section, lines_of, render}
 use Rattle.layout.specs.Runs.{Reads}
 use Rattle.layout.proofs.Recorded.{all_recorded}
@@ -37,16 +37,16 @@ use Rattle.record.specs.Levels.{Levelled}
 use Rattle.record.specs.Writing.{Adds}
 use Rattle.record.proofs.Unique.{book_sound}
 
--- no worth up to the end is over
-pub none_over : {W : Type 0} (o : Ops W) (ws : List W) (i : ℕ) → AllWithin (λ w. o.size w ≤ 1000000) ws 0 i → length ws ≤ i → Any (λ w. 1000000 < o.size w) ws → ⊥
-none_over o ws i every end any = omega (arith, any.2 o.none, every any.0 o.none (omega arith) (omega (arith, any.1)))
-
 -- the section of the names with these letters
-pub names_section : (which : Section) (names : List Name) (xs : List (List ℕ)) → map letters names ≡ xs → spell (head which) (length names) ∷ map letters names ≡ section which item xs
+pub names_section : (which : Section) (names : List Name) (xs : List (List ℕ)) → names ≡ xs → spell (head which) (length names) ∷ names ≡ section which item xs
 names_section which names xs e =
     let many = sym (length-map names letters) ∙ ap length e in
     let same = e ∙ sym (map-id xs) in
     λ i. spell (head which) (many i) ∷ same i
+
+-- lines added to a buffer that was empty
+pub drafted : (x : Contents) (before after : Buffer) → written before ≡ [] → Adds before after (lines_of x) → written after ≡ take 32768 (render x)
+drafted x before after empty p = p.text ∙ ap (λ l. take 32768 (l ++ render x)) empty
 
 -- The units of a closed round
 
@@ -157,17 +157,12 @@ module _ {V W : Type 0} {o : Ops W} {k : Kind} {level : W → Level} {worth : Le
         let valid = (all_recorded k b (closed_allotment x) zs).valid (book_sound b x.round.sound) (fair_units x) (levels_fair told (nodes b) ws first is none) (long_levels told (nodes b) ws first is le) in
         (reads_records (render (contents_of k b (closed_allotment x) zs)) (contents_of k b (closed_allotment x) zs)).1 (refl, valid)
 
-    -- a buffer that was empty takes the record whole
-    whole_text : (before after : Buffer) → written before ≡ [] → nodes (closed_book x) ≤ length first → Adds before after (lines_of (contents_of k (closed_book x) (closed_allotment x) (map (λ w. numbers k (level w)) first))) → written after ≡ render (filed k (closed_book x) (closed_allotment x) (map (λ w. numbers k (level w)) ws))
-    whole_text before after empty le p =
-        let b = closed_book x in
-        p.text
-        ∙ ap (λ l. take 32768 (l ++ render (contents_of k b (closed_allotment x) (map (λ w. numbers k (level w)) first)))) empty
-        ∙ ap (λ zs. take 32768 (render (contents_of k b (closed_allotment x) zs))) (first_levels told (nodes b) ws first is)
-        ∙ take_all 32768 _ (filed_reads le).0
+    -- the record fits as a whole
+    whole_text : (text : List ℕ) → nodes (closed_book x) ≤ length first → text ≡ take 32768 (render (contents_of k (closed_book x) (closed_allotment x) (map (λ w. numbers k (level w)) first))) → text ≡ render (filed k (closed_book x) (closed_allotment x) (map (λ w. numbers k (level w)) ws))
+    whole_text text le p = p ∙ ap (λ zs. take 32768 (render (contents_of k (closed_book x) (closed_allotment x) zs))) (first_levels told (nodes (closed_book x)) ws first is) ∙ take_all 32768 _ (filed_reads le).0
 
-    pub files_copied : (before text : Buffer) (page after : List ℕ) (r : Result ℕ Refusal) → written before ≡ [] → nodes (closed_book x) ≤ length first → Adds before text (lines_of (contents_of k (closed_book x) (closed_allotment x) (map (λ w. numbers k (level w)) first))) → Copied (written text) page after r → Files k (closed_book x) (closed_allotment x) (map (λ w. numbers k (level w)) ws) page after r
-    files_copied before text page after r empty le p c =
+    pub files_copied : (text : Buffer) (page after : List ℕ) (r : Result ℕ Refusal) → nodes (closed_book x) ≤ length first → written text ≡ take 32768 (render (contents_of k (closed_book x) (closed_allotment x) (map (λ w. numbers k (level w)) first))) → Copied (written text) page after r → Files k (closed_book x) (closed_allotment x) (map (λ w. numbers k (level w)) ws) page after r
+    files_copied text page after r le p c =
         let b = closed_book x in
         let enough = enough_levels told (nodes b) ws first is le in
-        copied k b (closed_allotment x) (map (λ w. numbers k (level w)) ws) (written text) page after r (whole_text before text empty le p) (λ any. none (worths_over told (nodes b) ws first is any)) (λ lt. omega arith) (filed_reads le) c
+        copied k b (closed_allotment x) (map (λ w. numbers k (level w)) ws) (written text) page after r (whole_text (written text) le p) (λ any. none (worths_over told (nodes b) ws first is any)) (λ lt. omega arith) (filed_reads le) c

@@ -2,14 +2,14 @@
 use Rattle.std.proofs.Common.{◌≡◌, ℕ, zero, suc, ◌+◌, ◌<◌, ◌≤◌, List, [], ◌∷◌, ◌++◌, map, length, get_or, take, sum, Result, sym, refl, ap, ◌∙◌, subst, ap₂, arith}
 use mathlib.Core.Path.{fun_ext}
 use Rattle.std.specs.List.{flat_map}
-use Rattle.std.proofs.lemmas.List.{append_assoc, append-nil, length-append, length-map, length-take-le, map-append, map_more, flat_map_more, take_all, take_more}
+use Rattle.std.proofs.lemmas.List.{append_assoc, length-append, length-map, length-take-le, map-append, map_more}
 use Rattle.std.proofs.lemmas.List.Sums.{sum_by-cons}
 use Rattle.tables.specs.Tables.{Added}
 use Rattle.tables.specs.declared.refusal.Refusal.{Refusal}
 use Rattle.tables.proofs.Entries.{grew}
-use Rattle.flow.specs.Arcs.{flow_of, with_flow}
+use Rattle.flow.specs.Arcs.{flow_of}
 use Rattle.flow.specs.declared.arc.Arc.{Arc}
-use Rattle.network.specs.Networks.{Net}
+use Rattle.network.specs.Networks.{Net, with_flow}
 use Rattle.book.specs.Allotments.{Allotment, all_of}
 use Rattle.book.specs.Arcs.{holding_arcs, give_arc, own_arc, get_arc, offer_arcs, offers_arcs, laid, nodes, no_flows, arcs_of, net_of, offer_flows, filling}
 use Rattle.book.specs.Books.{no_holding}
@@ -18,10 +18,12 @@ use Rattle.book.specs.declared.holding.Holding.{Holding}
 use Rattle.book.specs.declared.line.Line.{Line}
 use Rattle.book.proofs.Filled.{laid_as_row, length_arcs}
 use Rattle.layout.specs.Records.{LineWithUnits, OfferWithUnits, Contents, no_filled_offer, line_of, units_of, units_on, offer_of, book_of, allotted}
+use Rattle.reading.specs.Held.{units_in}
 use Rattle.record.specs.Evidence.{network_of}
-use Rattle.record.specs.Flows.{flow_row, given_from, flows_of, Stands, Shows, with_flows}
+use Rattle.record.specs.Filled.{filled}
+use Rattle.record.specs.Flows.{flow_row, given_from, flows_of, with_flows}
 use Rattle.record.specs.declared.record_network.filled.FilledOffer.{FilledOffer}
-use Rattle.record.proofs.Showing.{Bounded, stands_none}
+use Rattle.record.proofs.Showing.{Bounded, units_back}
 
 -- the flows of a list of arcs
 abbrev pub flows : List Arc → List ℕ
@@ -40,7 +42,7 @@ all_given [] = refl
 all_given (l ∷ ls) = ap (λ n. l.units + n) (all_given ls) ∙ sym (sum_by-cons (λ n. n) l.units (map units_of ls))
 
 -- the units on the lines of offers
-abbrev allotment : List OfferWithUnits → Allotment
+abbrev pub allotment : List OfferWithUnits → Allotment
 allotment os k = record { give = units_on (get_or os k no_filled_offer).give; get = units_on (get_or os k no_filled_offer).get }
 
 module _ (n : ℕ) (hs : List Holding) where
@@ -90,39 +92,35 @@ held_more f hs es i d before after y r same few lt inv is added =
     let long = ap length inv ∙ length-map (take i hs) f ∙ length-take-le i hs (omega arith) in
     grew 448 before after (y ∷ []) r added (omega arith) ∙ ap₂ (λ xs z. xs ++ z ∷ []) inv (is ∙ ap (λ xs. f (get_or xs i d)) same) ∙ sym (map_more f hs i d l)
 
+-- the flows of an offer, by its rows of units
+pub row_shown : (v : FilledOffer) → flow_row (filled v) ≡ v.given.now ++ (sum v.given.now ∷ v.got.now)
+row_shown v =
+    let given = units_back v.offer.give.now v.given.now v.gives.long in
+    let got = units_back v.offer.get.now v.got.now v.gets.long in
+    (λ i. given i ++ (sum (given i) ∷ got i))
+
 -- the flows of one offer, added in three parts
-pub offer_added : (a b c d given got : List ℕ) (y : ℕ) (r s t : Result (Unit {0}) Refusal) → length a + (length given + length got) < 448 → Added 448 a b given r → Added 448 b c (y ∷ []) s → Added 448 c d got t → d ≡ a ++ (given ++ (y ∷ got))
-offer_added a b c d given got y r s t room ab bc cd =
+pub offer_added : (v : FilledOffer) (y : ℕ) → y ≡ sum v.given.now → (a b c d : List ℕ) (r s t : Result (Unit {0}) Refusal) → length a + length (flow_row (filled v)) ≤ 448 → Added 448 a b v.given.now r → Added 448 b c (y ∷ []) s → Added 448 c d v.got.now t → d ≡ a ++ flow_row (filled v)
+offer_added v y ey a b c d r s t room ab bc cd =
+    let given = v.given.now in
+    let got = v.got.now in
+    let row : flow_row (filled v) ≡ given ++ (y ∷ got) = row_shown v ∙ ap (λ n. given ++ (n ∷ got)) (sym ey) in
+    let few : length a + (length given + (1 + length got)) ≤ 448 = omega (arith, ap length row, length-append given (y ∷ got)) in
     let eb = grew 448 a b given r ab (omega arith) in
     let lb = ap length eb ∙ length-append a given in
     let ec = grew 448 b c (y ∷ []) s bc (omega arith) in
     let lc = ap length ec ∙ length-append b (y ∷ []) in
-    grew 448 c d got t cd (omega arith) ∙ ap (λ ys. ys ++ got) (ec ∙ ap (λ ys. ys ++ y ∷ []) eb) ∙ append_assoc (a ++ given) (y ∷ []) got ∙ append_assoc a given (y ∷ got)
+    grew 448 c d got t cd (omega arith) ∙ ap (λ ys. ys ++ got) (ec ∙ ap (λ ys. ys ++ y ∷ []) eb) ∙ append_assoc (a ++ given) (y ∷ []) got ∙ append_assoc a given (y ∷ got) ∙ ap (λ ys. a ++ ys) (sym row)
 
--- the flows on the arcs of the holdings and of the first k offers, whose units end at n
-pub record Rowed (x : Contents) (k n : ℕ) (row : List ℕ) : Type 0 where
-  pub stands : Stands x.offers k n
-  pub is : row ≡ map (given_from x) x.holdings ++ flat_map flow_row (take k x.offers)
-  pub long : length row ≤ 128 + (n + k)
+rows_few : (os : List OfferWithUnits) → length (flat_map flow_row os) ≡ length (units_in os) + length os
+rows_few [] = refl
+rows_few (o ∷ os) =
+    let given = map units_of o.give in
+    let got = map units_of o.get in
+    omega (arith, length-append (flow_row o) (flat_map flow_row os), length-append given (sum given ∷ got), length-append given (got ++ units_in os), length-append got (units_in os), rows_few os)
 
-module _ (x : Contents) (bs : Bounded x) where
-  pub rowed_none : (row : List ℕ) → row ≡ map (given_from x) x.holdings → Rowed x 0 0 row
-  rowed_none row e = record { stands = stands_none x.offers; is = e ∙ sym (append-nil (map (given_from x) x.holdings)); long = omega (arith, bs.holdings, ap length e, length-map x.holdings (given_from x)) }
-
-  pub rowed_all : (k n : ℕ) (row : List ℕ) → Rowed x k n row → length x.offers ≤ k → row ≡ flows_of x
-  rowed_all k n row q l = q.is ∙ ap (λ os. map (given_from x) x.holdings ++ flat_map flow_row os) (take_all k x.offers l)
-
-  module _ (k n : ℕ) (row : List ℕ) (q : Rowed x k n row) (v : FilledOffer) (shows : Shows x k n v) where
-    pub room : length row + (length v.given.now + length v.got.now) < 448
-    room = omega (arith, q.long, shows.next.within, shows.known, bs.lines, bs.offers)
-
-    pub rowed_more : (m : ℕ) (after : List ℕ) → m ≡ n + (length v.given.now + length v.got.now) → after ≡ row ++ (v.given.now ++ (sum v.given.now ∷ v.got.now)) → Rowed x (k + 1) m after
-    rowed_more m after em e =
-        let o = get_or x.offers k no_filled_offer in
-        let held = map (given_from x) x.holdings in
-        let same : v.given.now ++ (sum v.given.now ∷ v.got.now) ≡ flow_row o = (λ i. shows.given i ++ (sum (shows.given i) ∷ shows.got i)) in
-        record {
-          stands = subst (Stands x.offers (k + 1)) (sym em) shows.next;
-          is = e ∙ (λ i. q.is i ++ same i) ∙ flat_map_more flow_row held (take k x.offers) o ∙ ap (λ os. held ++ flat_map flow_row os) (sym (take_more x.offers k no_filled_offer shows.known));
-          long = omega (arith, q.long, ap length e, length-append row (v.given.now ++ (sum v.given.now ∷ v.got.now)), length-append v.given.now (sum v.given.now ∷ v.got.now));
-        }
+-- there is room for the flows of the next of the offers to come
+pub room : (x : Contents) → Bounded x → (row : List ℕ) (before : List OfferWithUnits) → row ++ flat_map flow_row before ≡ flows_of x → (o : OfferWithUnits) (os : List OfferWithUnits) → before ≡ o ∷ os → length row + length (flow_row o) ≤ 448
+room x bs row before q o os e =
+    let all = ap (λ fs. length (row ++ flat_map flow_row fs)) (sym e) ∙ ap length q in
+    omega (arith, all, bs.holdings, bs.lines, bs.offers, length-append row (flow_row o ++ flat_map flow_row os), length-append (flow_row o) (flat_map flow_row os), length-append (map (given_from x) x.holdings) (flat_map flow_row x.offers), length-map x.holdings (given_from x), rows_few x.offers)

@@ -1,62 +1,65 @@
 -- Units summed line by line and offer by offer.
-use Rattle.std.proofs.Common.{◌≡◌, ℕ, ◌+◌, ◌*◌, ◌^◌, ◌<◌, ◌≤◌, eqb, List, length, get_or, take, sum, sym, ap, ◌∙◌, subst, arith}
+use Rattle.std.proofs.Common.{◌≡◌, ℕ, suc, ◌+◌, ◌*◌, ◌^◌, ◌<◌, ◌≤◌, Bool, true, false, eqb, cond, List, [], ◌∷◌, ◌++◌, map, length, get_or, sum, refl, ap, ◌∙◌, arith}
+use Rattle.std.specs.List.{filter, sum_by, zip}
 use Rattle.std.proofs.ByRecursion.{All-from_get_or, sum_by_le}
-use Rattle.std.proofs.lemmas.List.{get_or-map, length-map, take_all}
-use Rattle.std.proofs.lemmas.Bool.{cond-true, cond-false, eq-eqb, ne_eqb}
+use Rattle.std.proofs.lemmas.List.{length-append, length-map}
+use Rattle.std.proofs.lemmas.List.Sums.{sum_by-cons}
 use Rattle.flow.specs.Graphs.{when}
 use Rattle.book.specs.Allotments.{of_item, given_by}
-use Rattle.book.specs.Books.{no_offer}
 use Rattle.book.specs.declared.holding.Holding.{Holding}
 use Rattle.book.specs.declared.line.Line.{Line}
-use Rattle.layout.specs.Records.{Contents, no_filled_offer, offer_of, book_of, allotted}
-use Rattle.round.proofs.Sides.{sum_more}
-use Rattle.record.specs.Flows.{given_from, Stands, Moderate, Shows}
+use Rattle.layout.specs.Records.{OfferWithUnits, Contents, no_filled_offer, line_of, units_of, units_on, offer_of}
+use Rattle.layout.proofs.Recorded.{lines_same}
+use Rattle.reading.specs.Held.{units_in}
+use Rattle.record.specs.Filled.{filled, given_in}
+use Rattle.record.specs.Flows.{Moderate}
 use Rattle.record.specs.declared.record_network.filled.FilledOffer.{FilledOffer}
-use Rattle.record.proofs.Showing.{Bounded}
+use Rattle.record.proofs.Flowing.{allotment}
+use Rattle.record.proofs.Showing.{Bounded, units_back}
 
 -- all units of a side can be summed
 pub total_fits : (ls : List Line) (us : List ℕ) → Moderate ls us → sum us < 2 ^ 32
 total_fits ls us m = omega (arith, m.few, sum_by_le (λ n. n) 1000 us (All-from_get_or (λ n. n ≤ 1000) us 0 (λ t _. m.small t)))
 
-module _ (ls : List Line) (us : List ℕ) (m : Moderate ls us) (j i s : ℕ) (d : Line) (lt : i < length ls) where
-  item_next : s ≡ of_item j (take i ls) (λ t. get_or us t 0) → s + when (eqb (get_or ls i d).item j) (get_or us i 0) ≡ of_item j (take (i + 1) ls) (λ t. get_or us t 0)
-  item_next e = ap (λ n. n + when (eqb (get_or ls i d).item j) (get_or us i 0)) e ∙ sym (sum_more (λ l n. when (eqb l.item j) n) ls (λ t. get_or us t 0) i d lt)
+-- the units on the lines of an item, as the library picks and sums them
+picked : (b : Bool) (l : Line) (u : ℕ) (ps : List (Line × ℕ)) → sum (map (λ p. p.1) (cond b ((l, u) ∷ ps) ps)) ≡ when b u + sum (map (λ p. p.1) ps)
+picked true l u ps = sum_by-cons (λ n. n) u (map (λ p. p.1) ps)
+picked false l u ps = omega arith
 
-  -- a line of the item
-  pub item_more : (after : ℕ) → after ≡ s + get_or us i 0 → (get_or ls i d).item ≡ j → (s ≡ of_item j (take i ls) (λ t. get_or us t 0)) × (s ≤ 1000 * i) → (after ≡ of_item j (take (i + 1) ls) (λ t. get_or us t 0)) × (after ≤ 1000 * (i + 1))
-  item_more after is own inv =
-      let c = cond-true (eqb (get_or ls i d).item j) (get_or us i 0) 0 (eq-eqb (get_or ls i d).item j own) in
-      (is ∙ ap (λ n. s + n) (sym c) ∙ item_next inv.0, omega (arith, inv.1, m.small i))
+pub item_summed : (j : ℕ) (ls : List Line) (us : List ℕ) → length ls ≡ length us → sum (map (λ p. p.1) (filter (λ p. eqb p.0.item j) (zip ls us))) ≡ of_item j ls (λ t. get_or us t 0)
+item_summed j [] us e = refl
+item_summed j (l ∷ ls) [] e = absurd (omega arith)
+item_summed j (l ∷ ls) (u ∷ us) e = picked (eqb l.item j) l u (filter (λ p. eqb p.0.item j) (zip ls us)) ∙ ap (λ n. when (eqb l.item j) u + n) (item_summed j ls us (omega arith))
 
-  -- a line of another
-  pub item_same : (after : ℕ) → after ≡ s → ((get_or ls i d).item ≡ j → ⊥) → (s ≡ of_item j (take i ls) (λ t. get_or us t 0)) × (s ≤ 1000 * i) → (after ≡ of_item j (take (i + 1) ls) (λ t. get_or us t 0)) × (after ≤ 1000 * (i + 1))
-  item_same after is other inv =
-      let c = cond-false (eqb (get_or ls i d).item j) (get_or us i 0) 0 (ne_eqb (get_or ls i d).item j other) in
-      let none : s ≡ s + 0 = omega arith in
-      (is ∙ none ∙ ap (λ n. s + n) (sym c) ∙ item_next inv.0, omega (arith, inv.1))
+when_le : (b : Bool) (n : ℕ) → when b n ≤ n
+when_le true n = omega arith
+when_le false n = omega arith
 
--- what the first k offers give from a holding, whose units end at n
-pub record Summed (x : Contents) (h : Holding) (k n s : ℕ) : Type 0 where
-  pub stands : Stands x.offers k n
-  pub is : s ≡ given_by (take k (book_of x).offers) (allotted x) h.member h.item
-  pub small : s ≤ 1000 * n
+of_item_le : (j : ℕ) (ls : List Line) (u : ℕ → ℕ) → ((t : ℕ) → u t ≤ 1000) → of_item j ls u ≤ 1000 * length ls
+of_item_le j [] u h = omega arith
+of_item_le j (l ∷ ls) u h = omega (arith, when_le (eqb l.item j) (u 0), h 0, of_item_le j ls (λ t. u (suc t)) (λ t. h (suc t)))
 
-module _ (x : Contents) (h : Holding) where
-  pub summed_all : (k n s : ℕ) → Summed x h k n s → length x.offers ≤ k → s ≡ given_from x h
-  summed_all k n s q l = q.is ∙ ap (λ os. given_by os (allotted x) h.member h.item) (take_all k (book_of x).offers (omega (arith, length-map x.offers offer_of)))
+pub item_fits : (j : ℕ) (ls : List Line) (us : List ℕ) → Moderate ls us → sum (map (λ p. p.1) (filter (λ p. eqb p.0.item j) (zip ls us))) < 2 ^ 32
+item_fits j ls us m = omega (arith, item_summed j ls us m.long, of_item_le j ls (λ t. get_or us t 0) m.small, m.long, m.few)
 
-  module _ (bs : Bounded x) (k n s : ℕ) (q : Summed x h k n s) (v : FilledOffer) (shows : Shows x k n v) (y : ℕ) (small : y ≤ 1000 * length v.given.now) where
-    pub sum_fits : s + y ≤ 256000
-    sum_fits = omega (arith, q.small, shows.next.within, bs.lines)
+-- what an offer gives from a holding, by its lines and its row of units
+pub given_shown : (h : Holding) (v : FilledOffer) → given_in h (filled v) ≡ when (eqb v.offer.member h.member) (of_item h.item v.offer.give.now (λ t. get_or v.given.now t 0))
+given_shown h v =
+    let ls = lines_same v.offer.give.now (λ t. get_or v.given.now t 0) in
+    let us = units_back v.offer.give.now v.given.now v.gives.long in
+    (λ i. when (eqb v.offer.member h.member) (of_item h.item (ls i) (λ t. get_or (us i) t 0)))
 
-    pub summed_more : y ≡ when (eqb v.member h.member) (of_item h.item v.give.now (λ t. get_or v.given.now t 0)) → (m r : ℕ) → m ≡ n + (length v.given.now + length v.got.now) → r ≡ s + y → Summed x h (k + 1) m r
-    summed_more e m r em er =
-        let os = (book_of x).offers in
-        let at : get_or os k no_offer ≡ offer_of (get_or x.offers k no_filled_offer) = get_or-map offer_of x.offers k no_filled_offer no_offer shows.known in
-        let same : y ≡ when (eqb (get_or os k no_offer).member h.member) (of_item h.item (get_or os k no_offer).give (allotted x k).give) =
-        e ∙ (λ i. when (eqb (shows.member i) h.member) (of_item h.item (shows.give i) (λ t. get_or (shows.given i) t 0))) ∙ ap (λ o. when (eqb o.member h.member) (of_item h.item o.give (allotted x k).give)) (sym at) in
-        record {
-          stands = subst (Stands x.offers (k + 1)) (sym em) shows.next;
-          is = er ∙ (λ i. q.is i + same i) ∙ sym (sum_more (λ o u. when (eqb o.member h.member) (of_item h.item o.give u.give)) os (allotted x) k no_offer (omega (arith, shows.known, length-map x.offers offer_of)));
-          small = omega (arith, q.small);
-        }
+module _ (h : Holding) where
+  -- what all give from it
+  pub given_sum : (os : List OfferWithUnits) → sum_by (given_in h) os ≡ given_by (map offer_of os) (allotment os) h.member h.item
+  given_sum [] = refl
+  given_sum (o ∷ os) = sum_by-cons (given_in h) o os ∙ ap (λ n. given_in h o + n) (given_sum os)
+
+  given_le : (os : List OfferWithUnits) → ((k t : ℕ) → units_on (get_or os k no_filled_offer).give t ≤ 1000) → sum_by (given_in h) os ≤ 1000 * length (units_in os)
+  given_le [] s = omega arith
+  given_le (o ∷ os) s =
+      let lines = map line_of o.give in
+      omega (arith, sum_by-cons (given_in h) o os, when_le (eqb o.member h.member) (of_item h.item lines (units_on o.give)), of_item_le h.item lines (units_on o.give) (s 0), length-map o.give line_of, length-map o.give units_of, length-append (map units_of o.give) (map units_of o.get ++ units_in os), length-append (map units_of o.get) (units_in os), given_le os (λ k. s (suc k)))
+
+  pub given_fits : (x : Contents) → Bounded x → sum_by (given_in h) x.offers < 2 ^ 32
+  given_fits x bs = omega (arith, given_le x.offers (λ k t. (bs.units k t).0), bs.lines)

@@ -30,7 +30,7 @@ with_suc f (x ∷ xs) u zero d lt = refl
 with_suc f (x ∷ xs) u (suc i) d lt = ap (λ l. f x (u 0) ∷ l) (with_suc f xs (λ k. u (suc k)) i d (omega arith))
 
 -- one entry more
-with_more : {X U Y : Type 0} (f : X → U → Y) (xs : List X) (u : ℕ → U) (i : ℕ) (d : X) → i < length xs → map_with f (take (i + 1) xs) u ≡ map_with f (take i xs) u ++ f (get_or xs i d) (u i) ∷ []
+pub with_more : {X U Y : Type 0} (f : X → U → Y) (xs : List X) (u : ℕ → U) (i : ℕ) (d : X) → i < length xs → map_with f (take (i + 1) xs) u ≡ map_with f (take i xs) u ++ f (get_or xs i d) (u i) ∷ []
 with_more f xs u i d lt =
     let e : i + 1 ≡ suc i = omega arith in
     ap (λ n. map_with f (take n xs) u) e ∙ with_suc f xs u i d lt

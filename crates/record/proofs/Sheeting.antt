@@ -1,10 +1,11 @@
 -- Sheets, and the records that clear them.
-use Rattle.std.proofs.Common.{◌≡◌, ℕ, ◌<◌, ◌≤◌, List, [], ◌∷◌, map, length, take, ℤ, Some, Ok, Err, Result, sym, refl, subst, ⊎_elim, arith}
+use Rattle.std.proofs.Common.{◌≡◌, ℕ, ◌+◌, ◌<◌, ◌≤◌, Bool, true, false, List, [], ◌∷◌, map, length, get_or, take, ℤ, Some, Ok, Err, Result, Decides, MatchBool, sym, refl, ◌∙◌, subst, ⊎_elim, arith}
 use lib.ListN.{length-map}
-use Rattle.std.specs.List.{AllByRecursion}
-use Rattle.std.proofs.ByRecursion.{All-append}
+use Rattle.std.specs.List.{AllByRecursion, AllWithin, HoldsAt, range_with_len}
+use Rattle.std.proofs.ByRecursion.{All-append, All-from_get_or, All-get_or, All-map}
+use Rattle.std.proofs.lemmas.List.FromFn.{get_or-range_with_len, length-range_with_len}
 use Rattle.std.proofs.lemmas.List.{get_or-take, length-take-le}
-use Rattle.std.proofs.lemmas.Bool.{cases_lt}
+use Rattle.std.proofs.lemmas.Bool.{both_ways, cases_lt}
 use Rattle.tables.specs.Refusals.{when, First, number}
 use Rattle.tables.specs.declared.refusal.Refusal.{Refusal}
 use Rattle.worth.specs.Kinds.{Ops, Laws}
@@ -15,10 +16,10 @@ use Rattle.network.specs.Potentials.{potential, Fitted}
 use Rattle.search.specs.Outcomes.{Clearing}
 use Rattle.book.specs.Allotments.{Allotment, Allowed}
 use Rattle.book.specs.Arcs.{nodes, net_of, filled}
-use Rattle.book.specs.Books.{Book, Any, Sound}
+use Rattle.book.specs.Books.{Book, Offer, Any, Sound, no_offer}
 use Rattle.book.proofs.Each.{all_left, all_right}
 use Rattle.book.proofs.Sizes.{graph_sound}
-use Rattle.layout.specs.Records.{Kind, LineWithUnits, OfferWithUnits, units_of, offer_of}
+use Rattle.layout.specs.Records.{Kind, OfferWithUnits, units_of, offer_of}
 use Rattle.layout.specs.Render.{render}
 use Rattle.layout.proofs.Recorded.{all_recorded}
 use Rattle.round.specs.Uses.{allotted}
@@ -33,33 +34,44 @@ use Rattle.record.specs.Sheets.{Unfilled, Clears, PageShort, ClearedRound}
 use Rattle.record.proofs.Filing.{first_levels, worths_over, levels_fair, long_levels}
 use Rattle.record.proofs.Passing.{same_graph, fits_alike, passes}
 
+at_number : (n k : ℕ) → k < n → get_or (range_with_len 0 n) k 0 ≡ k
+at_number n k lt = let z : 0 + k ≡ k = omega arith in get_or-range_with_len 0 n k 0 lt ∙ z
+
+-- the test of every number below the count tells whether all offers stand
+pub standing_decides : (os : List Offer) (n : ℕ) → n ≡ length os → (r : Bool) → MatchBool r (AllWithin (λ k. 0 < (get_or os k no_offer).limit) (range_with_len 0 n) 0 (length (range_with_len 0 n))) ((k : ℕ) × (k < length (range_with_len 0 n)) × HoldsAt (λ k. (get_or os k no_offer).limit ≡ 0) (range_with_len 0 n) k) → Decides r (AllByRecursion (λ o. 0 < o.limit) os)
+standing_decides os n e true all = (
+  λ _. All-from_get_or (λ o. 0 < o.limit) os no_offer (λ i lt. subst (λ k. 0 < (get_or os k no_offer).limit) (at_number n i (omega arith)) (all i 0 (omega arith) (omega (arith, length-range_with_len 0 n)))),
+  λ _. refl,
+)
+standing_decides os n e false (k, lt, none) =
+    let there : k < n = omega (arith, lt, length-range_with_len 0 n) in
+    let known : k < length os = omega (arith, there, e) in
+    let limit : (get_or os k no_offer).limit ≡ 0 = subst (λ j. (get_or os j no_offer).limit ≡ 0) (at_number n k there) (none 0) in
+    (λ t. absurd (both_ways false refl t), λ all. absurd (omega (arith, limit, All-get_or (λ o. 0 < o.limit) os k no_offer known all)))
+
+all_from_map : {X Y : Type 0} (P : Y → Type 0) (f : X → Y) (xs : List X) → AllByRecursion P (map f xs) → AllByRecursion (λ x. P (f x)) xs
+all_from_map P f [] h = tt
+all_from_map P f (x ∷ xs) h = (h.0, all_from_map P f xs h.1)
+
 -- no units in a row, and none on the lines
-zeros : (ls : List LineWithUnits) → Unfilled ls → AllByRecursion (λ u. u ≡ 0) (map units_of ls)
-zeros [] h = tt
-zeros (l ∷ ls) h = (h.0, zeros ls h.1)
-
-unfilled : (ls : List LineWithUnits) → AllByRecursion (λ u. u ≡ 0) (map units_of ls) → Unfilled ls
-unfilled [] h = tt
-unfilled (l ∷ ls) h = (h.0, unfilled ls h.1)
-
 pub row_zero : (fs : List OfferWithUnits) → AllByRecursion (λ o. Unfilled o.give × Unfilled o.get) fs → AllByRecursion (λ u. u ≡ 0) (units_in fs)
 row_zero [] h = tt
-row_zero (f ∷ fs) h = All-append (λ u. u ≡ 0) (map units_of f.give) _ (zeros f.give h.0.0) (All-append (λ u. u ≡ 0) (map units_of f.get) _ (zeros f.get h.0.1) (row_zero fs h.1))
+row_zero (f ∷ fs) h = All-append (λ u. u ≡ 0) (map units_of f.give) _ (All-map (λ u. u ≡ 0) units_of f.give h.0.0) (All-append (λ u. u ≡ 0) (map units_of f.get) _ (All-map (λ u. u ≡ 0) units_of f.get h.0.1) (row_zero fs h.1))
 
 pub lines_unfilled : (fs : List OfferWithUnits) → AllByRecursion (λ u. u ≡ 0) (units_in fs) → AllByRecursion (λ o. Unfilled o.give × Unfilled o.get) fs
 lines_unfilled [] h = tt
 lines_unfilled (f ∷ fs) h =
     let rest = all_right (λ u. u ≡ 0) (map units_of f.give) _ h in
-    ((unfilled f.give (all_left (λ u. u ≡ 0) (map units_of f.give) _ h), unfilled f.get (all_left (λ u. u ≡ 0) (map units_of f.get) _ rest)), lines_unfilled fs (all_right (λ u. u ≡ 0) (map units_of f.get) _ rest))
+    let give = all_from_map (λ u. u ≡ 0) units_of f.give (all_left (λ u. u ≡ 0) (map units_of f.give) _ h) in
+    let get = all_from_map (λ u. u ≡ 0) units_of f.get (all_left (λ u. u ≡ 0) (map units_of f.get) _ rest) in
+    ((give, get), lines_unfilled fs (all_right (λ u. u ≡ 0) (map units_of f.get) _ rest))
 
 -- limits with and without the units
 pub limits_to : (fs : List OfferWithUnits) → AllByRecursion (λ o. 0 < o.limit) fs → AllByRecursion (λ o. 0 < o.limit) (map offer_of fs)
-limits_to [] h = tt
-limits_to (f ∷ fs) h = (h.0, limits_to fs h.1)
+limits_to fs h = All-map (λ o. 0 < o.limit) offer_of fs h
 
 pub limits_from : (fs : List OfferWithUnits) → AllByRecursion (λ o. 0 < o.limit) (map offer_of fs) → AllByRecursion (λ o. 0 < o.limit) fs
-limits_from [] h = tt
-limits_from (f ∷ fs) h = (h.0, limits_from fs h.1)
+limits_from fs h = all_from_map (λ o. 0 < o.limit) offer_of fs h
 
 module _ {W : Type 0} {o : Ops W} (laws : Laws o) where
   -- only the first potentials count
@@ -111,3 +123,7 @@ module _ {W : Type 0} {o : Ops W} (laws : Laws o) where
       where
         short : First (when 12 (length before < length (render (filed k b a zs))) ∷ []) (Some (number e)) → PageShort k b before (number e)
         short g = ⊎_elim (λ lt. let q = g.0 lt in let m : number e ≡ 12 = cc in record { contents = filed k b a zs; clears = clears; short = lt; number = m }) (λ le. let q = g.1 (λ lt. omega arith) in let z : ◌≡◌ {A = ℕ} 0 1 = cc in absurd (omega arith)) (cases_lt (length before) (length (render (filed k b a zs))))
+
+-- clearing a round by a kind that is the sheet's
+pub cleared_as : (k j : Kind) (b d : Book) (before after page : List ℕ) (r s : Result ℕ Refusal) → k ≡ j → b ≡ d → page ≡ after → s ≡ r → ClearedRound k b before after r → ClearedRound j d before page s
+cleared_as k j b d before after page r s ek eb ep er h = subst (λ (T : Type 0). T) (λ i. ClearedRound (ek i) (eb i) before (sym ep i) (sym er i)) h

@@ -1,35 +1,37 @@
--- Offers with the units of their lines, read from one row.
+-- Offers with the units of their lines, taken one after the other from a row.
 use Rattle.std.proofs.Common.{◌≡◌, ℕ, zero, suc, ◌+◌, ◌<◌, ◌≤◌, List, [], ◌∷◌, ◌++◌, map, length, get_or, take, drop, sym, refl, ap, ◌∙◌, subst, arith}
+use mathlib.Core.HLevel.{×_prop}
 use mathlib.Core.Logic.{∥∥₁_elim}
 use native.Mathlib.Bridge.{le_prop}
 use Rattle.std.specs.List.{AllByRecursion}
-use Rattle.std.proofs.lemmas.List.{append_assoc, length-append, length-drop, length-map, drop-drop, drop_more, drop_at, take_at, get_or-map}
+use Rattle.std.proofs.lemmas.List.{length-append, length-map, drop_more, drop_at, take_at, get_or-map}
 use Rattle.book.specs.Books.{Book, no_offer}
-use Rattle.layout.specs.Records.{LineWithUnits, OfferWithUnits, Contents, no_filled_offer, line_of, units_of, units_on, offer_of, book_of, allotted, FairUnits}
+use Rattle.book.specs.Rows.{map_with}
+use Rattle.book.specs.declared.line.Line.{Line}
+use Rattle.layout.specs.Records.{LineWithUnits, OfferWithUnits, Contents, no_filled_offer, line_of, units_of, units_on, offer_of, book_of, allotted, fill_line, fill_offer, FairUnits}
 use Rattle.round.specs.Views.{seen}
 use Rattle.round.specs.declared.offer_view.OfferView.{OfferView}
 use Rattle.reading.specs.Contents.{contents}
 use Rattle.reading.specs.Held.{units_in}
 use Rattle.reading.specs.declared.record.Record.{Record}
 use Rattle.reading.proofs.Helds.{units_counted}
-use Rattle.record.specs.Flows.{Stands, Shows}
-use Rattle.record.specs.declared.record_network.filled.FilledOffer.{FilledOffer}
+use Rattle.record.specs.Flows.{Moderate}
 
 -- the bounds of what a record holds
 pub record Bounded (x : Contents) : Type 0 where
   pub holdings : length x.holdings ≤ 128
   pub offers : length x.offers ≤ 64
   pub lines : length (units_in x.offers) ≤ 256
-  pub units : (k t : ℕ) → (allotted x k).give t ≤ 1000
+  pub units : (k t : ℕ) → ((allotted x k).give t ≤ 1000) × ((allotted x k).get t ≤ 1000)
 
 fair_side : (ls : List LineWithUnits) → FairUnits ls → (t : ℕ) → units_on ls t ≤ 1000
 fair_side [] h t = omega arith
 fair_side (l ∷ ls) h zero = h.0
 fair_side (l ∷ ls) h (suc t) = fair_side ls h.1 t
 
-fair_offers : (os : List OfferWithUnits) → AllByRecursion (λ o. FairUnits o.give × FairUnits o.get) os → (k t : ℕ) → units_on (get_or os k no_filled_offer).give t ≤ 1000
-fair_offers [] h k t = omega arith
-fair_offers (o ∷ os) h zero t = fair_side o.give h.0.0 t
+fair_offers : (os : List OfferWithUnits) → AllByRecursion (λ o. FairUnits o.give × FairUnits o.get) os → (k t : ℕ) → (units_on (get_or os k no_filled_offer).give t ≤ 1000) × (units_on (get_or os k no_filled_offer).get t ≤ 1000)
+fair_offers [] h k t = (omega arith, omega arith)
+fair_offers (o ∷ os) h zero t = (fair_side o.give h.0.0 t, fair_side o.get h.0.1 t)
 fair_offers (o ∷ os) h (suc k) t = fair_offers os h.1 k t
 
 pub bounded : (r : Record) → Bounded (contents r)
@@ -39,77 +41,92 @@ bounded r =
       holdings = ∥∥₁_elim r.valid le_prop (λ v. v.sound.holdings_few);
       offers = ∥∥₁_elim r.valid le_prop (λ v. omega (arith, v.sound.offers_few, length-map os offer_of));
       lines = ∥∥₁_elim r.valid le_prop (λ v. omega (arith, v.sound.lines_few, units_counted os));
-      units = λ k t. ∥∥₁_elim r.valid le_prop (λ v. fair_offers os v.units k t);
+      units = λ k t. ∥∥₁_elim r.valid (×_prop le_prop le_prop) (λ v. fair_offers os v.units k t);
     }
 
--- a round has as many offers as the record
-pub offers_many : (x : Contents) (b : Book) (n : ℕ) → b ≡ book_of x → n ≡ length b.offers → n ≡ length x.offers
-offers_many x b n e en = en ∙ ap (λ c. length c.offers) e ∙ length-map x.offers offer_of
+-- the offers from one on have no more lines than all
+later_few : (os : List OfferWithUnits) (k : ℕ) → length (units_in (drop k os)) ≤ length (units_in os)
+later_few os zero = omega arith
+later_few [] (suc k) = omega arith
+later_few (o ∷ os) (suc k) = omega (arith, later_few os k, length-append (map units_of o.give) (map units_of o.get ++ units_in os), length-append (map units_of o.get) (units_in os))
 
-pub stands_none : (os : List OfferWithUnits) → Stands os 0 0
-stands_none os = record { within = omega arith; rest = refl }
+-- lines and their units, put together again and taken apart
+again : (ls : List LineWithUnits) → map_with fill_line (map line_of ls) (units_on ls) ≡ ls
+again [] = refl
+again (l ∷ ls) = ap (λ ms. l ∷ ms) (again ls)
 
--- the units that an offer gives and gets, and those of the offers after it
-abbrev gives : List OfferWithUnits → ℕ → List ℕ
-gives os k = map units_of (get_or os k no_filled_offer).give
+pub units_back : (ls : List Line) (us : List ℕ) → length ls ≡ length us → map units_of (map_with fill_line ls (λ t. get_or us t 0)) ≡ us
+units_back [] [] e = refl
+units_back [] (u ∷ us) e = absurd (omega arith)
+units_back (l ∷ ls) [] e = absurd (omega arith)
+units_back (l ∷ ls) (u ∷ us) e = ap (λ vs. u ∷ vs) (units_back ls us (omega arith))
 
-abbrev gets : List OfferWithUnits → ℕ → List ℕ
-gets os k = map units_of (get_or os k no_filled_offer).get
+-- an offer that a round shows, and the parts of a row of units that are its own
+module _ (x : Contents) (bs : Bounded x) (k : ℕ) (us : List ℕ) (own : us ≡ units_in (drop k x.offers)) (b : Book) (eb : b ≡ book_of x) (v : OfferView) (shown : (k < length b.offers) × (seen v ≡ get_or b.offers k no_offer)) where
+  abbrev o : OfferWithUnits
+  o = get_or x.offers k no_filled_offer
 
-abbrev later : List OfferWithUnits → ℕ → List ℕ
-later os k = units_in (drop (k + 1) os)
+  abbrev gives : List ℕ
+  gives = map units_of o.give
 
-module _ (os : List OfferWithUnits) (k n : ℕ) (s : Stands os k n) (lt : k < length os) (g w : ℕ) (lg : length (gives os k) ≡ g) (lw : length (gets os k) ≡ w) where
-  ahead : drop n (units_in os) ≡ gives os k ++ (gets os k ++ later os k)
-  ahead = s.rest ∙ ap units_in (drop_more os k no_filled_offer lt)
+  abbrev gets : List ℕ
+  gets = map units_of o.get
 
-  -- the row is long enough for the offer's lines
-  ends : n + g + w ≤ length (units_in os)
-  ends = omega (arith, s.within, length-drop n (units_in os), ap length ahead, length-append (gives os k) (gets os k ++ later os k), length-append (gets os k) (later os k))
+  abbrev later : List ℕ
+  later = units_in (drop (k + 1) x.offers)
 
-  given_is : take g (drop n (units_in os)) ≡ gives os k
-  given_is = ap (take g) ahead ∙ take_at (gives os k) (gets os k ++ later os k) g lg
-
-  got_is : take w (drop (n + g) (units_in os)) ≡ gets os k
-  got_is = ap (take w) (sym (drop-drop g n (units_in os)) ∙ ap (drop g) ahead ∙ drop_at (gives os k) (gets os k ++ later os k) g lg) ∙ take_at (gets os k) (later os k) w lw
-
-  stands_next : Stands os (k + 1) (n + (g + w))
-  stands_next = record {
-    within = omega (arith, ends);
-    rest = sym (drop-drop (g + w) n (units_in os)) ∙ ap (drop (g + w)) (ahead ∙ sym (append_assoc (gives os k) (gets os k) (later os k))) ∙ drop_at (gives os k ++ gets os k) (later os k) (g + w) (omega (arith, length-append (gives os k) (gets os k)));
-  }
-
--- an offer that a round shows, and its parts of the row of units
-module _ (x : Contents) (bs : Bounded x) (k n : ℕ) (s : Stands x.offers k n) (b : Book) (eb : b ≡ book_of x) (v : OfferView) (shown : (k < length b.offers) × (seen v ≡ get_or b.offers k no_offer)) where
-  known : k < length x.offers
+  pub known : k < length x.offers
   known = omega (arith, shown.0, ap (λ c. length c.offers) eb, length-map x.offers offer_of)
 
-  is : seen v ≡ offer_of (get_or x.offers k no_filled_offer)
+  is : seen v ≡ offer_of o
   is = shown.1 ∙ ap (λ c. get_or c.offers k no_offer) eb ∙ get_or-map offer_of x.offers k no_filled_offer no_offer known
 
-  many_given : length (gives x.offers k) ≡ length v.give.now
-  many_given = length-map (get_or x.offers k no_filled_offer).give units_of ∙ sym (length-map (get_or x.offers k no_filled_offer).give line_of) ∙ sym (ap (λ o. length o.give) is)
+  ahead : us ≡ gives ++ (gets ++ later)
+  ahead = own ∙ ap units_in (drop_more x.offers k no_filled_offer known)
 
-  many_got : length (gets x.offers k) ≡ length v.get.now
-  many_got = length-map (get_or x.offers k no_filled_offer).get units_of ∙ sym (length-map (get_or x.offers k no_filled_offer).get line_of) ∙ sym (ap (λ o. length o.get) is)
+  many_given : length gives ≡ length v.give.now
+  many_given = length-map o.give units_of ∙ sym (length-map o.give line_of) ∙ sym (ap (λ c. length c.give) is)
 
-  pub parts_end : n + length v.give.now + length v.get.now ≤ length (units_in x.offers)
-  parts_end = ends x.offers k n s known (length v.give.now) (length v.get.now) many_given many_got
+  many_got : length gets ≡ length v.get.now
+  many_got = length-map o.get units_of ∙ sym (length-map o.get line_of) ∙ sym (ap (λ c. length c.get) is)
 
-  pub shows : (us : List ℕ) (f : FilledOffer) → us ≡ units_in x.offers → f.member ≡ v.member → f.give.now ≡ v.give.now → f.given.now ≡ take (length v.give.now) (drop n us) → f.got.now ≡ take (length v.get.now) (drop (n + length v.give.now) us) → Shows x k n f
-  shows us f eu em eg en ew =
-      let g = length v.give.now in
-      let w = length v.get.now in
-      let given : f.given.now ≡ gives x.offers k = en ∙ ap (λ xs. take g (drop n xs)) eu ∙ given_is x.offers k n s known g w many_given many_got in
-      let got : f.got.now ≡ gets x.offers k = ew ∙ ap (λ xs. take w (drop (n + g) xs)) eu ∙ got_is x.offers k n s known g w many_given many_got in
-      let lg : length f.given.now ≡ g = ap length given ∙ many_given in
-      let lw : length f.got.now ≡ w = ap length got ∙ many_got in
-      record {
-        known = known;
-        member = em ∙ ap (λ o. o.member) is;
-        give = eg ∙ ap (λ o. o.give) is;
-        given = given;
-        got = got;
-        moderate = record { long = ap length eg ∙ sym lg; few = omega (arith, parts_end, bs.lines); small = λ t. subst (λ xs. get_or xs t 0 ≤ 1000) (sym given) (bs.units k t) };
-        next = subst (λ m. Stands x.offers (k + 1) (n + m)) (λ i. sym lg i + sym lw i) (stands_next x.offers k n s known g w many_given many_got);
-      }
+  few : length gives + length gets ≤ 256
+  few = omega (arith, bs.lines, later_few x.offers k, ap length own, ap length ahead, length-append gives (gets ++ later), length-append gets later)
+
+  -- the row is long enough for the give lines
+  pub gives_fit : length v.give.now ≤ length us
+  gives_fit = omega (arith, ap length ahead, length-append gives (gets ++ later), many_given)
+
+  module _ (given others : List ℕ) (eg : given ≡ take (length v.give.now) us) (eo : others ≡ drop (length v.give.now) us) where
+    given_is : given ≡ gives
+    given_is = eg ∙ ap (take (length v.give.now)) ahead ∙ take_at gives (gets ++ later) (length v.give.now) many_given
+
+    others_is : others ≡ gets ++ later
+    others_is = eo ∙ ap (drop (length v.give.now)) ahead ∙ drop_at gives (gets ++ later) (length v.give.now) many_given
+
+    -- and for the get lines after them
+    pub gets_fit : length v.get.now ≤ length others
+    gets_fit = omega (arith, ap length others_is, length-append gets later, many_got)
+
+    pub gives_moderate : Moderate v.give.now given
+    gives_moderate = record { long = sym many_given ∙ sym (ap length given_is); few = omega (arith, few, ap length given_is); small = λ t. subst (λ ys. get_or ys t 0 ≤ 1000) (sym given_is) (bs.units k t).0 }
+
+    module _ (got rest : List ℕ) (ew : got ≡ take (length v.get.now) others) (er : rest ≡ drop (length v.get.now) others) where
+      got_is : got ≡ gets
+      got_is = ew ∙ ap (take (length v.get.now)) others_is ∙ take_at gets later (length v.get.now) many_got
+
+      pub gets_moderate : Moderate v.get.now got
+      gets_moderate = record { long = sym many_got ∙ sym (ap length got_is); few = omega (arith, few, ap length got_is); small = λ t. subst (λ ys. get_or ys t 0 ≤ 1000) (sym got_is) (bs.units k t).1 }
+
+      -- what is left of the row belongs to the offers after it
+      pub own_next : rest ≡ units_in (drop (k + 1) x.offers)
+      own_next = er ∙ ap (drop (length v.get.now)) others_is ∙ drop_at gets later (length v.get.now) many_got
+
+      -- with its units it is the first of the offers that were to come
+      pub first_is : drop k x.offers ≡ fill_offer (seen v) (record { give = λ t. get_or given t 0; get = λ t. get_or got t 0 }) ∷ drop (k + 1) x.offers
+      first_is =
+          let whole : offer_of o ≡ seen v = sym is in
+          let g : gives ≡ given = sym given_is in
+          let w : gets ≡ got = sym got_is in
+          let same : o ≡ fill_offer (offer_of o) (record { give = units_on o.give; get = units_on o.get }) = (λ i. record { member = o.member; limit = o.limit; give = sym (again o.give) i; get = sym (again o.get) i }) in
+          drop_more x.offers k no_filled_offer known ∙ ap (λ c. c ∷ drop (k + 1) x.offers) (same ∙ (λ i. fill_offer (whole i) (record { give = λ t. get_or (g i) t 0; get = λ t. get_or (w i) t 0 })))

@@ -2,7 +2,6 @@
 use Rattle.std.specs.Prelude.{◌≡◌, ℕ, ◌⊎◌, List, [], ◌∷◌, IfOk, Some, Result, MatchResult}
 use Rattle.tables.specs.Refusals.{Row, when, First, number, refusal}
 use Rattle.tables.specs.declared.refusal.Refusal.{Refusal}
-use Rattle.tables.specs.declared.table.Table.{Table}
 use Rattle.text.specs.declared.fault.Fault.{Fault}
 use Rattle.worth.specs.Kinds.{Ops}
 use Rattle.worth.specs.Money.{money}
@@ -38,17 +37,17 @@ pub record Answered (x : Contents) (p : Passed) : Type 0 where
 abbrev pub failing : Contents → List Row
 failing x = when 15 (Allowed (book_of x) (allotted x) → ⊥) ∷ when 11 (LevelsFit x.kind (network_of x) x.levels → ⊥) ∷ []
 
--- contents whose allotment is allowed and whose levels fit, with the worth by a kind and what each offer comes to
-pub record Shown {W : Type 0} (o : Ops W) (x : Contents) (worth : W) (results : List OfferResult) : Type 0 where
+-- contents whose allotment is allowed and whose levels fit, with the worth by a kind, as a total, and what each offer comes to
+pub record Shown {W : Type 0} (o : Ops W) (converts : W → Total → Type 0) (x : Contents) (p : Passed) : Type 0 where
   pub allowed : Allowed (book_of x) (allotted x)
   pub fits : LevelsFit x.kind (network_of x) x.levels
-  pub worth_is : worth ≡ value o (network_of x)
-  pub results_are : results ≡ map_with result_of (book_of x).offers (allotted x)
+  pub worth_is : converts (value o (network_of x)) p.worth
+  pub results_are : p.offers ≡ map_with result_of (book_of x).offers (allotted x)
 
 -- the contents tested by a kind: that, or why they fail
-pub record Tested {W : Type 0} (o : Ops W) (x : Contents) (r : Result (W × Table OfferResult 64) Refusal) : Type 0 where
+pub record Tested {W : Type 0} (o : Ops W) (converts : W → Total → Type 0) (x : Contents) (r : Result Passed Refusal) : Type 0 where
   pub refused : First (failing x) (refusal r)
-  pub outcome : IfOk r (λ p. Shown o x p.0 p.1)
+  pub outcome : IfOk r (λ p. Shown o converts x p)
 
 -- the text reads, but fails; no line is to blame
 pub record Fails (text : List ℕ) (f : Fault) : Type 0 where

@@ -1,15 +1,12 @@
 -- The flows that the units of a record put on the arcs of its network.
-use Rattle.std.specs.Prelude.{◌≡◌, ℕ, ◌+◌, ◌<◌, ◌≤◌, List, ◌∷◌, ◌++◌, map, length, drop, sum, slice_index, slice_index_or}
+use Rattle.std.specs.Prelude.{◌≡◌, ℕ, ◌<◌, ◌≤◌, List, ◌∷◌, ◌++◌, map, length, sum, slice_index}
 use Rattle.std.specs.List.{flat_map}
-use Rattle.flow.specs.Arcs.{with_flow}
-use Rattle.network.specs.Networks.{Net, flow_in}
+use Rattle.network.specs.Networks.{Net, with_flow, flow_in}
 use Rattle.book.specs.Allotments.{given_by}
 use Rattle.book.specs.Rows.{map_with}
 use Rattle.book.specs.declared.holding.Holding.{Holding}
 use Rattle.book.specs.declared.line.Line.{Line}
-use Rattle.layout.specs.Records.{OfferWithUnits, Contents, no_filled_offer, line_of, units_of, book_of, allotted}
-use Rattle.reading.specs.Held.{units_in}
-use Rattle.record.specs.declared.record_network.filled.FilledOffer.{FilledOffer}
+use Rattle.layout.specs.Records.{OfferWithUnits, Contents, units_of, book_of, allotted}
 
 -- the flows on an offer's arcs in order: on its give lines, on its own arc all units that it gives, on its get lines
 abbrev pub flow_row : OfferWithUnits → List ℕ
@@ -23,26 +20,11 @@ given_from x h = given_by (book_of x).offers (allotted x) h.member h.item
 abbrev pub flows_of : Contents → List ℕ
 flows_of x = map (given_from x) x.holdings ++ flat_map flow_row x.offers
 
--- in the row of all units, those of offer k and the next begin at n
-pub record Stands (os : List OfferWithUnits) (k n : ℕ) : Type 0 where
-  pub within : n ≤ length (units_in os)
-  pub rest : drop n (units_in os) ≡ units_in (drop k os)
-
 -- units for the lines of a side: one for each, and few and small enough to be summed
 pub record Moderate (lines : List Line) (units : List ℕ) : Type 0 where
   pub long : length lines ≡ length units
   pub few : length units ≤ 256
   pub small : (t : ℕ) → slice_index units t ≤ 1000
-
--- v is offer k, whose units begin at n of the row
-pub record Shows (x : Contents) (k n : ℕ) (v : FilledOffer) : Type 0 where
-  pub known : k < length x.offers
-  pub member : v.member ≡ (slice_index_or x.offers k no_filled_offer).member
-  pub give : v.give.now ≡ map line_of (slice_index_or x.offers k no_filled_offer).give
-  pub given : v.given.now ≡ map units_of (slice_index_or x.offers k no_filled_offer).give
-  pub got : v.got.now ≡ map units_of (slice_index_or x.offers k no_filled_offer).get
-  pub moderate : Moderate v.give.now v.given.now
-  pub next : Stands x.offers (k + 1) (n + (length v.given.now + length v.got.now))
 
 -- nothing flows
 abbrev pub Empty : Net → Type 0

@@ -6,4 +6,5 @@ pub mod Files
 pub mod Sheets
 pub mod Writing
 pub mod Flows
+pub mod Filled
 pub mod Worths

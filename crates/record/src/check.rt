@@ -1,4 +1,5 @@
-ghost use Rattle.std.specs.Prelude.{◌≡◌, ◌≤◌, map, length};
+ghost use Rattle.std.specs.Prelude.{◌≡◌, ◌*◌, ◌^◌, ◌<◌, ◌≤◌, map, length, take};
+ghost use Rattle.std.specs.Mem.{type_size};
 ghost use Rattle.book.specs.Rows.{map_with};
 ghost use Rattle.layout.specs.Records.{Valid};
 ghost use Rattle.reading.specs.Contents.{contents};
@@ -24,23 +25,13 @@ use worth::lexicographic::Lexicographic;
 use worth::money::Money;
 use worth::weeks::Weeks;
 
-// The worths that levels stand for.
-fn worths<W: Levelled>(levels: &[Level]) -> Table<W, 272>
-    ensures { length levels.now ≤ 272 → map (λ w. numbers W.Levelled.sort (W.Levelled.level w)) result ≡ map (numbers W.Levelled.sort) levels.now }
+// Puts the worths that levels stand for in the first places of a table, place by place: std does not say what a `zip` with `iter_mut` has written.
+fn put_worths<W: Levelled>(levels: &[Level], table: &mut [W])
+    requires { length levels.now ≤ length table.old }
+    ensures { map (λ w. numbers W.Levelled.sort (W.Levelled.level w)) (take (length levels.now) table.new) ≡ map (numbers W.Levelled.sort) levels.now }
 {
-    let mut worths = Table::new(W::none());
-    for l in levels {
-        let _ = worths.push(W::from_level(*l));
-    }
-    worths
-}
-
-fn result(answer: (i64, u32)) -> OfferResult
-    ensures { result ≡ record { payoff = answer.0; weeks = answer.1 } }
-{
-    OfferResult {
-        payoff: answer.0,
-        weeks: answer.1,
+    for (i, l) in levels.iter().enumerate() {
+        table[i] = W::from_level(*l);
     }
 }
 
@@ -48,30 +39,34 @@ fn result(answer: (i64, u32)) -> OfferResult
 fn results<W: Worth>(round: &ClosedRound<W>) -> Table<OfferResult, 64>
     ensures { result ≡ map_with result_of (closed_book round.now).offers (closed_allotment round.now) }
 {
-    let mut results = Table::new(OfferResult {
-        payoff: 0,
-        weeks: 0,
-    });
+    let mut results = Table::new(OfferResult::default());
     for k in 0..round.terms().offer_count() {
-        if let Ok(answer) = round.payoff(k) {
-            let _ = results.push(result(answer));
-        }
+        let answer = round.payoff(k).unwrap();
+        let _ = results.push(answer.into());
     }
     results
 }
 
-// The worth of a record of this kind and what each offer comes to, where its allotment is allowed and its levels fit.
-fn check_by<W: Levelled>(read: Record, levels: &[W]) -> Result<(W, Table<OfferResult, 64>), Refusal>
-    ensures { Valid (contents read) → (contents read).kind ≡ W.Levelled.sort → map (λ w. numbers W.Levelled.sort (W.Levelled.level w)) levels.now ≡ (contents read).levels → Tested W.Worth.ops (contents read) result }
+// What check answers of a record of this kind, where its allotment is allowed and its levels fit. The table of its worths fits in memory.
+fn check_by<W: Levelled + Into<Total>>(read: Record) -> Result<Passed, Refusal>
+    requires { 272 * type_size W.row < 2 ^ 63 }
+    ensures { Valid (contents read) → (contents read).kind ≡ W.Levelled.sort → Tested W.Worth.ops W.Into.converts (contents read) result }
 {
+    let mut worths = [W::none(); 272];
+    let levels = read.levels();
+    let count = levels.len();
+    put_worths(levels, &mut worths);
     let net = draw::<W>(read)?;
     if !is_circulation(&net) {
         return Err(Refusal::Rule);
     }
-    if !fits(&net, levels) {
+    if !fits(&net, &worths[..count]) {
         return Err(Refusal::Unfit);
     }
-    Ok((net.round.worth(), results(&net.round)))
+    Ok(Passed {
+        worth: net.round.worth().into(),
+        offers: results(&net.round),
+    })
 }
 
 // Tests a text: it reads, its allotment keeps the rules, and its levels show that no other is worth more.
@@ -80,22 +75,9 @@ pub fn check(text: &[u8]) -> Result<Passed, Fault>
     ensures law { Evidence }
 {
     let read = Record::read(text)?;
-    match read.kind() {
-        Kind::Money => {
-            let levels = worths::<Money>(read.levels());
-            let (worth, offers) = check_by(read, levels.as_slice())?;
-            Ok(Passed {
-                worth: Total::Money(worth),
-                offers,
-            })
-        }
-        Kind::MoneyThenWeeks => {
-            let levels = worths::<Lexicographic<Money, Weeks>>(read.levels());
-            let (worth, offers) = check_by(read, levels.as_slice())?;
-            Ok(Passed {
-                worth: Total::MoneyThenWeeks(worth),
-                offers,
-            })
-        }
-    }
+    let tested = match read.kind() {
+        Kind::Money => check_by::<Money>(read),
+        Kind::MoneyThenWeeks => check_by::<Lexicographic<Money, Weeks>>(read),
+    };
+    Ok(tested?)
 }

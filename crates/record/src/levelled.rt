@@ -30,7 +30,7 @@ pub trait Levelled: Worth {
     fn kind() -> Kind
         ensures { kind_as result ≡ sort };
 
-    // The worth as a level.
+    // The worth as a level. Levels and worths are of crates below, so that a `From` between them cannot stand here.
     fn to_level(self) -> Level
         ensures { result ≡ level self };
 

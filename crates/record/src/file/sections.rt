@@ -7,57 +7,57 @@ ghost use Rattle.reading.specs.Levels.{numbers};
 ghost use Rattle.record.specs.Writing.{Adds};
 
 use super::super::levelled::Levelled;
-use super::lines::{write_head, write_level, write_line, write_row};
+use super::draft::Draft;
 use book::holding::Holding;
 use reading::kind::Kind;
 use terms::name::Name;
-use text::buffer::Buffer;
 use text::section::Section;
 
-// The section of the kind, with a word for each of its parts.
-pub(super) fn write_kind(buffer: &mut Buffer, kind: Kind)
-    ensures { Adds buffer.old buffer.new (kind_section (kind_as kind)) }
-{
-    match kind {
-        Kind::Money => {
-            write_head(buffer, Section::Kinds, 1);
-            write_line(buffer, b"money");
+impl Draft {
+    // The section of the kind, with a word for each of its parts.
+    pub(super) fn kind(&mut self, kind: Kind)
+        ensures { Adds self.old.text self.new.text (kind_section (kind_as kind)) }
+    {
+        match kind {
+            Kind::Money => {
+                self.head(Section::Kinds, 1);
+                self.line(b"money");
+            }
+            Kind::MoneyThenWeeks => {
+                self.head(Section::Kinds, 2);
+                self.line(b"money");
+                self.line(b"weeks");
+            }
         }
-        Kind::MoneyThenWeeks => {
-            write_head(buffer, Section::Kinds, 2);
-            write_line(buffer, b"money");
-            write_line(buffer, b"weeks");
+    }
+
+    // A section of names, that of the items or that of the members.
+    pub(super) fn names(&mut self, section: Section, names: &[Name])
+        ensures { Adds self.old.text self.new.text (spell (head section) (length names.now) ∷ names.now) }
+    {
+        self.head(section, names.len());
+        for name in names {
+            self.line(name.as_slice());
         }
     }
-}
 
-// A section of names, that of the items or that of the members.
-pub(super) fn write_names(buffer: &mut Buffer, section: Section, names: &[Name])
-    ensures { Adds buffer.old buffer.new (spell (head section) (length names.now) ∷ names.now) }
-{
-    write_head(buffer, section, names.len());
-    for name in names {
-        write_line(buffer, name.as_slice());
+    // The section of the holdings.
+    pub(super) fn holdings(&mut self, holdings: &[Holding])
+        ensures { Adds self.old.text self.new.text (section_of Holdings a_holding holdings.now) }
+    {
+        self.head(Section::Holdings, holdings.len());
+        for h in holdings {
+            self.row(&[h.member, h.item, h.units].map(u64::from));
+        }
     }
-}
 
-// The section of the holdings.
-pub(super) fn write_holdings(buffer: &mut Buffer, holdings: &[Holding])
-    ensures { Adds buffer.old buffer.new (section_of Holdings a_holding holdings.now) }
-{
-    write_head(buffer, Section::Holdings, holdings.len());
-    for h in holdings {
-        let row = [u64::from(h.member), u64::from(h.item), u64::from(h.units)];
-        write_row(buffer, &row);
-    }
-}
-
-// The section of the levels.
-pub(super) fn write_levels<W: Levelled>(buffer: &mut Buffer, levels: &[W])
-    ensures { Adds buffer.old buffer.new (section_of Levels a_level (map (λ w. numbers W.Levelled.sort (W.Levelled.level w)) levels.now)) }
-{
-    write_head(buffer, Section::Levels, levels.len());
-    for w in levels {
-        write_level(buffer, W::kind(), w.to_level());
+    // The section of the levels.
+    pub(super) fn levels<W: Levelled>(&mut self, levels: &[W])
+        ensures { Adds self.old.text self.new.text (section_of Levels a_level (map (λ w. numbers W.Levelled.sort (W.Levelled.level w)) levels.now)) }
+    {
+        self.head(Section::Levels, levels.len());
+        for w in levels {
+            self.level(W::kind(), w.to_level());
+        }
     }
 }

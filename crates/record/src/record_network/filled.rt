@@ -1,39 +1,61 @@
-ghost use Rattle.std.specs.Prelude.{◌≡◌, ◌+◌, ◌≤◌, length, take, drop, MatchOption};
+ghost use Rattle.std.specs.Prelude.{◌≡◌, drop};
 ghost use Rattle.reading.specs.Contents.{contents};
-ghost use Rattle.record.specs.Flows.{Stands, Shows};
+ghost use Rattle.reading.specs.Held.{units_in};
+ghost use Rattle.record.specs.Flows.{Moderate};
 
-use book::line::Line;
 use reading::record::Record;
+use round::offer_view::OfferView;
 
-// An offer's give lines and the units on the lines of both sides, to be read.
+// An offer and the units on the lines of both sides, to be read.
 #[derive(Clone, Copy)]
 pub(super) struct FilledOffer<'a> {
-    pub member: u32,
-    pub give: &'a [Line],
+    pub offer: OfferView<'a>,
     pub given: &'a [u32],
     pub got: &'a [u32],
+    ghost gives: { Moderate offer.give.now given.now },
+    ghost gets: { Moderate offer.get.now got.now },
 }
 
-// So many units from one on.
-fn part(units: &[u32], first: usize, count: usize) -> &[u32]
-    requires { first + count ≤ length units.now }
-    ensures { result.now ≡ take count (drop first units.now) }
-{
-    &units[first..first + count]
+// The offers of a record from one on, with the units that are on their lines and those after them.
+#[derive(Drop)]
+pub(super) struct FilledOffers<'a> {
+    read: &'a Record,
+    next: u32,
+    units: &'a [u32],
+    ghost own: { units.now ≡ units_in (drop next (contents read.now).offers) },
 }
 
-// Offer `k`, or nothing where there is none. The units on its lines begin at `first` of the row.
-pub(super) fn filled_offer(record: &Record, k: u32, first: usize) -> Option<FilledOffer<'_>>
-    requires { Stands (contents «record».now).offers k first }
-    ensures { MatchOption result (length (contents «record».now).offers ≤ k) (λ v. Shows (contents «record».now) k first v) }
-{
-    let offer = record.terms().offer_at(k)?;
-    let units = record.units();
-    let gives = offer.give.len();
-    Some(FilledOffer {
-        member: offer.member,
-        give: offer.give,
-        given: part(units, first, gives),
-        got: part(units, first + gives, offer.get.len()),
-    })
+impl<'a> FilledOffers<'a> {
+    ghost use Rattle.record.specs.Filled.{left};
+
+    // All offers of a record.
+    pub(super) fn of(read: &'a Record) -> FilledOffers<'a>
+        ensures { left result ≡ (contents read.now).offers }
+    {
+        FilledOffers {
+            read,
+            next: 0,
+            units: read.units(),
+        }
+    }
+}
+
+impl<'a> Iterator for FilledOffers<'a> {
+    ghost use Rattle.std.specs.Iterator.{YieldsFirstBy, item_count};
+    ghost use Rattle.record.specs.Filled.{filled, left};
+
+    type Item = FilledOffer<'a>;
+
+    ghost next_gives = { YieldsFirstBy filled left };
+
+    ghost remaining = { item_count left };
+
+    fn next(&mut self) -> Option<FilledOffer<'a>> {
+        let offer = self.read.terms().offer_at(self.next)?;
+        let (given, others) = self.units.split_at(offer.give.len());
+        let (got, others) = others.split_at(offer.get.len());
+        self.next += 1;
+        self.units = others;
+        Some(FilledOffer { offer, given, got })
+    }
 }

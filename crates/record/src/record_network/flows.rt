@@ -1,40 +1,55 @@
-ghost use Rattle.std.specs.Prelude.{◌≡◌, ◌+◌, ◌*◌, ◌^◌, ◌<◌, ◌≤◌, ◌∷◌, ◌++◌, map, length, sum, ◌==◌, slice_index};
-ghost use Rattle.flow.specs.Graphs.{when};
+ghost use Rattle.std.specs.Prelude.{◌≡◌, ◌+◌, ◌^◌, ◌<◌, ◌≤◌, ◌++◌, map, length, sum, slice_index};
 ghost use Rattle.book.specs.Allotments.{of_item};
 ghost use Rattle.reading.specs.Contents.{contents};
-ghost use Rattle.record.specs.Flows.{given_from, flows_of, Moderate};
+ghost use Rattle.record.specs.Filled.{filled, given_in};
+ghost use Rattle.record.specs.Flows.{flow_row, given_from, flows_of};
 
-use super::filled::{FilledOffer, filled_offer};
+use super::filled::{FilledOffer, FilledOffers};
 use book::holding::Holding;
-use book::line::Line;
 use reading::record::Record;
 use tables::table::Table;
 
-// The units on the lines of one item.
-fn units_of_item(lines: &[Line], units: &[u32], item: u32) -> u32
-    requires { Moderate lines.now units.now }
-    ensures sum { result ≡ of_item item lines.now (λ t. slice_index units.now t) }
-    ensures bound { result ≤ 1000 * length units.now }
+// All units of a side.
+fn total(units: &[u32]) -> u32
+    requires { sum units.now < 2 ^ 32 }
+    ensures { result ≡ sum units.now }
 {
-    let mut sum = 0;
-    for (t, line) in lines.iter().enumerate() {
-        if line.item == item {
-            sum += units[t];
-        }
-    }
-    sum
+    units.iter().sum()
 }
 
-// The units that an offer gives from a holding.
-fn given_by_offer(offer: FilledOffer<'_>, h: Holding) -> u32
-    requires { Moderate offer.give.now offer.given.now }
-    ensures sum { result ≡ when (offer.entry.member == h.member) (of_item h.item offer.entry.give.now (λ t. slice_index offer.entry.given.now t)) }
-    ensures bound { result ≤ 1000 * length offer.entry.given.now }
-{
-    if offer.member == h.member {
-        units_of_item(offer.give, offer.given, h.item)
-    } else {
-        0
+impl<'a> FilledOffer<'a> {
+    // The units on the give lines of one item.
+    fn given_of(self, item: u32) -> u32
+        ensures { result ≡ of_item item self.entry.offer.give.now (λ t. slice_index self.entry.given.now t) }
+    {
+        self.offer
+            .give
+            .iter()
+            .zip(self.given)
+            .filter(|(line, _)| line.item == item)
+            .map(|(_, units)| *units)
+            .sum()
+    }
+
+    // The units that it gives from a holding.
+    fn given_from(self, h: Holding) -> u32
+        ensures { result ≡ given_in h (filled self.entry) }
+    {
+        if self.offer.member == h.member {
+            self.given_of(h.item)
+        } else {
+            0
+        }
+    }
+
+    // Adds the flows on its arcs: those of its give lines, its own, those of its get lines.
+    fn add_to(self, flows: &mut Table<u32, 448>)
+        requires { length flows.old + length (flow_row (filled self)) ≤ 448 }
+        ensures { flows.new ≡ flows.old ++ flow_row (filled self.entry) }
+    {
+        let _ = flows.extend(self.given);
+        let _ = flows.push(total(self.given));
+        let _ = flows.extend(self.got);
     }
 }
 
@@ -42,15 +57,9 @@ fn given_by_offer(offer: FilledOffer<'_>, h: Holding) -> u32
 fn given_from(record: &Record, h: Holding) -> u32
     ensures { result ≡ given_from (contents «record».now) h }
 {
-    let mut sum = 0;
-    let mut first = 0;
-    for k in 0..record.terms().offer_count() {
-        if let Some(offer) = filled_offer(record, k, first) {
-            sum += given_by_offer(offer, h);
-            first += offer.given.len() + offer.got.len();
-        }
-    }
-    sum
+    FilledOffers::of(record)
+        .map(|offer| offer.given_from(h))
+        .sum()
 }
 
 // The flows on the arcs of the holdings.
@@ -64,36 +73,13 @@ fn holding_flows(record: &Record) -> Table<u32, 448>
     flows
 }
 
-// All units of a side.
-fn total(units: &[u32]) -> u32
-    requires { sum units.now < 2 ^ 32 }
-    ensures { result ≡ sum units.now }
-{
-    units.iter().sum()
-}
-
-// Adds the flows on the arcs of an offer: those of its give lines, its own, those of its get lines.
-fn add_offer(flows: &mut Table<u32, 448>, offer: FilledOffer<'_>)
-    requires moderate { Moderate offer.give.now offer.given.now }
-    requires room { length flows.old + (length offer.given.now + length offer.got.now) < 448 }
-    ensures { flows.new ≡ flows.old ++ (offer.entry.given.now ++ (sum offer.entry.given.now ∷ offer.entry.got.now)) }
-{
-    let _ = flows.extend(offer.given);
-    let _ = flows.push(total(offer.given));
-    let _ = flows.extend(offer.got);
-}
-
 // The flow of each arc of the record's network, in the order of the arcs.
 pub(super) fn flows_of(record: &Record) -> Table<u32, 448>
     ensures { result ≡ flows_of (contents «record».now) }
 {
     let mut flows = holding_flows(record);
-    let mut first = 0;
-    for k in 0..record.terms().offer_count() {
-        if let Some(offer) = filled_offer(record, k, first) {
-            add_offer(&mut flows, offer);
-            first += offer.given.len() + offer.got.len();
-        }
+    for offer in FilledOffers::of(record) {
+        offer.add_to(&mut flows);
     }
     flows
 }

@@ -1,4 +1,4 @@
-use Rattle.std.proofs.Common.{◌≡◌, Ok, sym, ap, ◌∙◌, subst, arith}
+use Rattle.std.proofs.Common.{◌≡◌, replicate, Ok, sym, ap, ◌∙◌, subst, arith}
 use Rattle.search.specs.Outcomes.{Clearing}
 use Rattle.book.specs.Arcs.{net_of}
 use Rattle.round.specs.Closed.{closed_book, closed_net}
@@ -10,13 +10,13 @@ use Rattle.record.proofs.Unique.{book_sound}
 use Rattle.record.proofs.sheet.clear_by.Goals as goal
 
 pub returns-in_err-clear : goal.returns-in_err-clear
-returns-in_err-clear g c enough =
+returns-in_err-clear g c =
     let closes = c.close-closed.ensures.outcome in
     let short = c.in_err-clear.ensures.outcome.short in
     absurd (omega (arith, short, ap (λ n. n.nodes) closes.net, few_nodes c.args.round))
 
 pub returns : goal.returns
-returns g c enough =
+returns g c =
     let k = g.W.Levelled.sort in
     let o = g.W.Worth.ops in
     let closes = c.close-closed.ensures.outcome in
@@ -25,5 +25,5 @@ returns g c enough =
     let same : closed_book after ≡ book c.args.round = cleared.kept ∙ closes.book in
     let net : closed_net c.close-closed.result ≡ net_of (closed_book after) = closes.net ∙ ap net_of (sym same) in
     let sum = c.in_ok-clear.field-0 in
-    let climbed : Clearing o (net_of (closed_book after)) (closed_net after) c.args.work.now c.clear.new.work (Ok sum) = subst (λ n. Clearing o n (closed_net after) c.args.work.now c.clear.new.work (Ok sum)) net cleared.outcome in
+    let climbed : Clearing o (net_of (closed_book after)) (closed_net after) (replicate 272 c.none-work.result) c.clear.new.work (Ok sum) = subst (λ n. Clearing o n (closed_net after) (replicate 272 c.none-work.result) c.clear.new.work (Ok sum)) net cleared.outcome in
     subst (λ b. ClearedRound k b c.args.page.now c.file.new.page c.file.result) same (filed_best g.met.W.Worth.lawful g.met.W.Levelled.told (closed_book after) (closed_net after) _ _ sum (book_sound (closed_book after) after.round.sound) climbed c.args.page.now c.file.new.page c.file.result c.file.ensures.outcome)

@@ -1,5 +1,0 @@
-use Rattle.record.proofs.Adding.{adds_line}
-use Rattle.record.proofs.file.lines.write_line.Goals as goal
-
-pub returns : goal.returns
-returns c = adds_line c.put.new.self c.put.ensures c.end_line.ensures

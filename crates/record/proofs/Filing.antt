@@ -8,9 +8,8 @@ use Rattle.tables.specs.Refusals.{when, First, refusal}
 use Rattle.tables.specs.declared.refusal.Refusal.{Refusal}
 use Rattle.tables.specs.declared.refusal.Refusal.TheVariants.{Bounds, Short}
 use Rattle.tables.proofs.Firsts.{here, next}
-use Rattle.terms.specs.Names.{letters}
 use Rattle.terms.specs.declared.name.Name.{Name}
-use Rattle.text.specs.Buffers.{written, Copied}
+use Rattle.text.specs.Buffers.{Copied}
 use Rattle.text.specs.declared.buffer.Buffer.{Buffer}
 use Rattle.text.specs.declared.section.Section.{Section}
 use Rattle.worth.specs.Kinds.{Ops}
@@ -40,12 +39,12 @@ use Rattle.record.proofs.Unique.{book_sound}
 -- the section of the names with these letters
 pub names_section : (which : Section) (names : List Name) (xs : List (List ℕ)) → names ≡ xs → spell (head which) (length names) ∷ names ≡ section which item xs
 names_section which names xs e =
-    let many = sym (length-map names letters) ∙ ap length e in
+    let many = ap length e in
     let same = e ∙ sym (map-id xs) in
     λ i. spell (head which) (many i) ∷ same i
 
 -- lines added to a buffer that was empty
-pub drafted : (x : Contents) (before after : Buffer) → written before ≡ [] → Adds before after (lines_of x) → written after ≡ take 32768 (render x)
+pub drafted : (x : Contents) (before after : Buffer) → before ≡ [] → Adds before after (lines_of x) → after ≡ take 32768 (render x)
 drafted x before after empty p = p.text ∙ ap (λ l. take 32768 (l ++ render x)) empty
 
 -- The units of a closed round
@@ -161,8 +160,8 @@ module _ {V W : Type 0} {o : Ops W} {k : Kind} {level : W → Level} {worth : Le
     whole_text : (text : List ℕ) → nodes (closed_book x) ≤ length first → text ≡ take 32768 (render (contents_of k (closed_book x) (closed_allotment x) (map (λ w. numbers k (level w)) first))) → text ≡ render (filed k (closed_book x) (closed_allotment x) (map (λ w. numbers k (level w)) ws))
     whole_text text le p = p ∙ ap (λ zs. take 32768 (render (contents_of k (closed_book x) (closed_allotment x) zs))) (first_levels told (nodes (closed_book x)) ws first is) ∙ take_all 32768 _ (filed_reads le).0
 
-    pub files_copied : (text : Buffer) (page after : List ℕ) (r : Result ℕ Refusal) → nodes (closed_book x) ≤ length first → written text ≡ take 32768 (render (contents_of k (closed_book x) (closed_allotment x) (map (λ w. numbers k (level w)) first))) → Copied (written text) page after r → Files k (closed_book x) (closed_allotment x) (map (λ w. numbers k (level w)) ws) page after r
+    pub files_copied : (text : Buffer) (page after : List ℕ) (r : Result ℕ Refusal) → nodes (closed_book x) ≤ length first → text ≡ take 32768 (render (contents_of k (closed_book x) (closed_allotment x) (map (λ w. numbers k (level w)) first))) → Copied text page after r → Files k (closed_book x) (closed_allotment x) (map (λ w. numbers k (level w)) ws) page after r
     files_copied text page after r le p c =
         let b = closed_book x in
         let enough = enough_levels told (nodes b) ws first is le in
-        copied k b (closed_allotment x) (map (λ w. numbers k (level w)) ws) (written text) page after r (whole_text (written text) le p) (λ any. none (worths_over told (nodes b) ws first is any)) (λ lt. omega arith) (filed_reads le) c
+        copied k b (closed_allotment x) (map (λ w. numbers k (level w)) ws) text page after r (whole_text text le p) (λ any. none (worths_over told (nodes b) ws first is any)) (λ lt. omega arith) (filed_reads le) c

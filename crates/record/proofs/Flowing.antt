@@ -7,9 +7,9 @@ use Rattle.std.proofs.lemmas.List.Sums.{sum_by-cons}
 use Rattle.tables.specs.Tables.{Added}
 use Rattle.tables.specs.declared.refusal.Refusal.{Refusal}
 use Rattle.tables.proofs.Entries.{grew}
-use Rattle.flow.specs.Arcs.{flow_of}
+use Rattle.flow.specs.Arcs.{flow_of, with_flow}
 use Rattle.flow.specs.declared.arc.Arc.{Arc}
-use Rattle.network.specs.Networks.{Net, with_flow}
+use Rattle.network.specs.Networks.{Net}
 use Rattle.book.specs.Allotments.{Allotment, all_of}
 use Rattle.book.specs.Arcs.{holding_arcs, give_arc, own_arc, get_arc, offer_arcs, offers_arcs, laid, nodes, no_flows, arcs_of, net_of, offer_flows, filling}
 use Rattle.book.specs.Books.{no_holding}

@@ -109,7 +109,7 @@ passes k b a zs s w fair long fits =
       fits = subst (λ n. LevelsFit k n zs) (alike.0 ∙ ap (λ c. filled c (allotted x)) (sym r.book)) fits;
     }
 
--- a kind of worth whose worths are written as levels of the same size that fit where they do
+-- a kind of worth whose worths are as levels of the same size that fit where they do
 module _ {W : Type 0} (G : Group W) (k : Kind) (numbers : W → List ℤ) (counted : (w : W) → length (numbers w) ≡ parts k) (sized : (w : W) → level_size (numbers w) ≡ G.ops.size w) (fitting : (n : Net) (ws : List W) → Fitted G.ops n ws → LevelsFit k n (map numbers ws)) where
   levels_exist : (b : Book) (a : Allotment) → Sound b → Allowed b a → BestAllotment G.ops b a → (zs : List (List ℤ)) × Passes (render (contents_of k b a zs)) (contents_of k b a zs)
   levels_exist b a s w best =

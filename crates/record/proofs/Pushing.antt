@@ -4,9 +4,9 @@ use Rattle.std.proofs.lemmas.Int.{ints}
 use Rattle.std.proofs.lemmas.Bool.{cases_lt}
 use Rattle.tables.specs.Refusals.{when, First, number}
 use Rattle.tables.specs.declared.refusal.Refusal.{Refusal}
-use Rattle.flow.specs.Arcs.{arc_at, flow_of}
+use Rattle.flow.specs.Arcs.{arc_at, flow_of, with_flow}
 use Rattle.flow.specs.declared.arc.Arc.{Arc}
-use Rattle.network.specs.Networks.{Net, with_flow, flow_in, put_flow}
+use Rattle.network.specs.Networks.{Net, flow_in, put_flow}
 use Rattle.network.specs.Pushes.{moved, push_rows}
 use Rattle.book.specs.Rows.{map_with}
 use Rattle.book.proofs.Networks.{with_flows_at}

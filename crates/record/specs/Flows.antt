@@ -1,7 +1,8 @@
 -- The flows that the units of a record put on the arcs of its network.
 use Rattle.std.specs.Prelude.{◌≡◌, ℕ, ◌<◌, ◌≤◌, List, ◌∷◌, ◌++◌, map, length, sum, slice_index}
 use Rattle.std.specs.List.{flat_map}
-use Rattle.network.specs.Networks.{Net, with_flow, flow_in}
+use Rattle.flow.specs.Arcs.{with_flow}
+use Rattle.network.specs.Networks.{Net, flow_in}
 use Rattle.book.specs.Allotments.{given_by}
 use Rattle.book.specs.Rows.{map_with}
 use Rattle.book.specs.declared.holding.Holding.{Holding}

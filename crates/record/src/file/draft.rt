@@ -1,5 +1,4 @@
-ghost use Rattle.std.specs.Prelude.{◌≡◌, map, take};
-ghost use Rattle.text.specs.Buffers.{written};
+ghost use Rattle.std.specs.Prelude.{◌≡◌, ◌≤◌, length, map, take};
 ghost use Rattle.layout.specs.Records.{contents_of};
 ghost use Rattle.layout.specs.Render.{render};
 ghost use Rattle.reading.specs.Levels.{numbers};
@@ -10,16 +9,17 @@ use round::closed_round::ClosedRound;
 use text::buffer::Buffer;
 use text::section::Section;
 
-// A record in the making, written line by line.
+// A record in the making, line by line.
 #[derive(Drop)]
 pub(super) struct Draft {
     pub text: Buffer,
+    ghost few: { length text ≤ 32768 },
 }
 
 impl Draft {
     // The record of a round, its allotment and these levels, section by section, as far as it fits.
     pub(super) fn of<W: Levelled>(round: &ClosedRound<W>, levels: &[W]) -> Draft
-        ensures { written result.text ≡ take 32768 (render (contents_of W.Levelled.sort (closed_book round.now) (closed_allotment round.now) (map (λ w. numbers W.Levelled.sort (W.Levelled.level w)) levels.now))) }
+        ensures { result.text ≡ take 32768 (render (contents_of W.Levelled.sort (closed_book round.now) (closed_allotment round.now) (map (λ w. numbers W.Levelled.sort (W.Levelled.level w)) levels.now))) }
     {
         let mut draft = Draft {
             text: Buffer::new(),

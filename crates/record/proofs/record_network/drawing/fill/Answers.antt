@@ -4,10 +4,14 @@ use Rattle.std.proofs.lemmas.Result.{err_from_is_err_and}
 use Rattle.std.proofs.lemmas.Int.{ints}
 use Rattle.tables.proofs.Firsts.{next}
 use Rattle.round.specs.Closed.{closed_net}
+use Rattle.round.specs.Carrying.{sound_closed}
 use Rattle.round.specs.Rounds.{book}
 use Rattle.record.specs.Flows.{with_flows}
 use Rattle.record.proofs.Pushing.{filled_none, filled_more, refused_over, none_over}
 use Rattle.record.proofs.record_network.drawing.fill.Goals as goal
+
+pub overflow_cast-i : goal.overflow_cast-i
+overflow_cast-i g c = let few = (sound_closed c.args.round.now).few_arcs in omega (arith, few, c.requires.long, c.loop-i-test.true)
 
 pub loop-i-init : goal.loop-i-init
 loop-i-init g c = (filled_none (closed_net c.args.round.now) c.requires.empty, refl)

@@ -9,7 +9,7 @@ use Rattle.record.proofs.Adding.{adds_none, adds_then, adds_more, adds_all}
 use Rattle.record.proofs.file.draft.Draft.holdings.Goals as goal
 
 pub loop-h-init : goal.loop-h-init
-loop-h-init c = adds_none _
+loop-h-init c = adds_none _ c.head.new.self.few
 
 pub loop-h-preserved : goal.loop-h-preserved
 loop-h-preserved c =

@@ -8,7 +8,7 @@ use Rattle.record.proofs.Adding.{adds_none, adds_same, adds_then, adds_more, add
 use Rattle.record.proofs.file.draft.Draft.levels.Goals as goal
 
 pub loop-w-init : goal.loop-w-init
-loop-w-init g c = adds_none _
+loop-w-init g c = adds_none _ c.head.new.self.few
 
 pub loop-w-preserved : goal.loop-w-preserved
 loop-w-preserved g c =

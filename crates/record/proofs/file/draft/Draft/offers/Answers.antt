@@ -11,7 +11,7 @@ use Rattle.record.proofs.Offered.{adds_one_offer, adds_offers}
 use Rattle.record.proofs.file.draft.Draft.offers.Goals as goal
 
 pub loop-k-init : goal.loop-k-init
-loop-k-init g c = adds_none _
+loop-k-init g c = adds_none _ c.head.new.self.few
 
 pub loop-k-preserved : goal.loop-k-preserved
 loop-k-preserved g c =

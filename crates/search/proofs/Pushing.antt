@@ -20,8 +20,10 @@ use Rattle.network.specs.Pushes.{Pushed}
 use Rattle.search.specs.Links.{SoundArcs, onto}
 use Rattle.search.specs.Cycles.{Measured, Takes, taken}
 use Rattle.search.specs.Outcomes.{Improves}
+use Rattle.search.specs.declared.cycle.Cycle.{Cycle}
+use Rattle.search.specs.Searches.{net_of, round, Measures}
 use Rattle.search.proofs.Ways.{Known}
-use Rattle.search.proofs.Rounds.{round, round_is, round_known, onto_allows, residual_small}
+use Rattle.search.proofs.Rounds.{round_is, round_known, onto_allows, residual_small}
 
 -- a list of arcs with the flow of one changed
 put_arcs : List Arc → ℕ → ℕ → List Arc
@@ -68,14 +70,14 @@ one_more d f b e = ap (λ c. d * (when c 1 + f)) e ∙ mul-add d 1 f ∙ ap (λ 
 no_more : (d f : ℕ) (b : Bool) → b ≡ false → d * (when b 1 + f) ≡ d * f
 no_more d f b e = ap (λ c. d * (when c 1 + f)) e ∙ ap (◌*◌ d) (omega arith)
 
--- what the pushes so far have done, part of the way round the cycle c, where rest is to come
-pub record Pushing {W : Type 0} (o : Ops W) (n : ℕ) (ls : List Arc) (c rest : List Step) (d : ℕ) (m : Net) : Type 0 where
+-- what the pushes so far have done, part of the way round a cycle, where rest is to come
+pub record Pushing {W : Type 0} (o : Ops W) (y : Cycle) (rest : List Step) (d : ℕ) (m : Net) : Type 0 where
   pub done : List Step
-  pub whole : onto rest done ≡ c
-  pub known : Known ls rest
-  pub nodes : m.nodes ≡ n
-  pub arcs : SameArcs ls m.arcs
-  pub shifted : Shifted (net o n ls) (flow_of ls) done d (flow_in m)
+  pub whole : onto rest done ≡ onto (round y) []
+  pub known : Known y.links.net.arcs.now rest
+  pub nodes : m.nodes ≡ y.links.net.nodes
+  pub arcs : SameArcs y.links.net.arcs.now m.arcs
+  pub shifted : Shifted (net o y.links.net.nodes y.links.net.arcs.now) (flow_of y.links.net.arcs.now) done d (flow_in m)
 
 module _ {W : Type 0} (G : Kind W) (n : ℕ) (ls : List Arc) (d : ℕ) where
   abbrev N : Graph W
@@ -153,86 +155,86 @@ module _ {W : Type 0} (G : Kind W) (n : ℕ) (ls : List Arc) (d : ℕ) where
   same_none : (m : Net) → ls ≡ m.arcs → SameArcs ls m.arcs
   same_none m e = subst (SameArcs ls) e (record { long = refl; each = λ i l. same_arc_refl (arc_at ls i) })
 
-  module _ (sound : SoundArcs n ls) (ks : List (Option Step)) (s : Step) (w : W) (long : n ≤ length ks) (z : Measured G.ops n ls ks s d w) where
-    -- the cycle
-    abbrev c : List Step
-    c = onto (round ls ks s) []
+module _ {W : Type 0} (G : Kind W) (y : Cycle) {d : ℕ} {w : W} (z : Measures G.ops y d w) where
+  abbrev ls : List Arc
+  ls = y.links.net.arcs.now
 
-    c_is : c ≡ onto z.closing.trail (s ∷ [])
-    c_is = ap (λ p. onto p []) (round_is long z.closing)
+  abbrev M : Graph W
+  M = net G.ops y.links.net.nodes ls
 
-    pub amount_small : d ≤ 1000
-    amount_small =
-        let a = (onto_allows N (flow_of ls) d z.closing.trail (s ∷ []) z.most.allowed).0 in
-        let b = residual_small G.ops n ls sound s z.closing.known in
-        omega arith
+  -- the cycle
+  abbrev c : List Step
+  c = onto z.closing.trail (y.closing ∷ [])
 
-    pub rise_fits : d * G.ops.size w ≤ 4194304
-    rise_fits = let b = mul-le-mul amount_small z.small in omega arith
+  whole_is : onto (round y) [] ≡ c
+  whole_is = ap (λ p. onto p []) (round_is y z.closing)
 
-    pub pushing_first : (p : List Step) → p ≡ round ls ks s → (m : Net) → record { nodes = n; arcs = ls } ≡ m → Pushing G.ops n ls c p d m
-    pushing_first p e m is = subst₂ (λ q k. Pushing G.ops n ls c q d k) (sym e) is (record {
-      done = [];
-      whole = refl;
-      known = round_known z.closing;
-      nodes = refl;
-      arcs = record { long = refl; each = λ i l. same_arc_refl (arc_at ls i) };
-      shifted = λ i h. refl;
+  amount_small : d ≤ 1000
+  amount_small =
+      let a = (onto_allows M (flow_of ls) d z.closing.trail (y.closing ∷ []) z.most.allowed).0 in
+      let b = residual_small G.ops y.links.net.nodes ls y.links.net.sound.each y.closing z.closing.known in
+      omega arith
+
+  pub rise_fits : d * G.ops.size w ≤ 4194304
+  rise_fits = let b = mul-le-mul amount_small z.small in omega arith
+
+  pub pushing_first : {p : List Step} → p ≡ round y → {m : Net} → net_of y.links.net ≡ m → Pushing G.ops y p d m
+  pushing_first e is = subst₂ (λ q k. Pushing G.ops y q d k) (sym e) is (record {
+    done = [];
+    whole = refl;
+    known = round_known y z.closing;
+    nodes = refl;
+    arcs = record { long = refl; each = λ i l. same_arc_refl (arc_at ls i) };
+    shifted = λ i h. refl;
+  })
+
+  -- one step more
+  module _ {p rest : List Step} {t : Step} (e : p ≡ t ∷ rest) {m : Net} (b : Pushing G.ops y p d m) where
+    on : Pushing G.ops y (t ∷ rest) d m
+    on = subst (λ q. Pushing G.ops y q d m) e b
+
+    pub next_takes : Takes m d t
+    next_takes =
+        let is = on.whole ∙ whole_is in
+        takes G y.links.net.nodes ls d y.links.net.sound.each m on.done t on.arcs on.shifted on.known.0 (onto_apart G y.links.net.nodes ls d rest (t ∷ on.done) (subst (λ q. Apart (starts M q)) (sym is) z.closing.gainful.apart)) (onto_allows M (flow_of ls) d rest (t ∷ on.done) (subst (λ q. Allows M (flow_of ls) q d) (sym is) z.most.allowed))
+
+    pub pushing_next : {m' : Net} → m' ≡ taken m d t → Pushing G.ops y rest d m'
+    pushing_next is = subst (λ k. Pushing G.ops y rest d k) (sym is) (record {
+      done = t ∷ on.done;
+      whole = on.whole;
+      known = on.known.1;
+      nodes = took_nodes G y.links.net.nodes ls d m t ∙ on.nodes;
+      arcs = took_same G y.links.net.nodes ls d m t on.known.0 on.arcs;
+      shifted = took_shift G y.links.net.nodes ls d m on.done on.shifted t next_takes;
     })
 
-    -- one step more
-    module _ (p rest : List Step) (t : Step) (e : p ≡ t ∷ rest) (m : Net) (b : Pushing G.ops n ls c p d m) where
-      on : Pushing G.ops n ls c (t ∷ rest) d m
-      on = subst (λ q. Pushing G.ops n ls c q d m) e b
+  pub pushing_all : {p : List Step} → p ≡ [] → {m : Net} → Pushing G.ops y p d m → {before : Net} → net_of y.links.net ≡ before → {r : W} → r ≡ G.ops.times d w → Improves G.ops before m r
+  pushing_all e {m} b same_net {r} is = subst (λ k. Improves G.ops k m r) same_net (record {
+    cycle = c;
+    gainful = z.closing.gainful;
+    amount = d;
+    allowed = z.most.allowed;
+    most = z.most.most;
+    nodes = b.nodes;
+    arcs = b.arcs;
+    shifted = shifted;
+    rises = less (value G.ops before) r ∙ ap (λ v. G.ops.plus v (G.ops.neg (value G.ops before))) (sym after);
+  })
+    where
+      before : Net
+      before = net_of y.links.net
 
-      pub next_takes : Takes m d t
-      next_takes =
-          let is = on.whole ∙ c_is in
-          takes sound m on.done t on.arcs on.shifted on.known.0 (onto_apart rest (t ∷ on.done) (subst (λ y. Apart (starts N y)) (sym is) z.closing.gainful.apart)) (onto_allows N (flow_of ls) d rest (t ∷ on.done) (subst (λ y. Allows N (flow_of ls) y d) (sym is) z.most.allowed))
+      shifted : Shifted M (flow_of ls) c d (flow_in m)
+      shifted = subst (λ q. Shifted M (flow_of ls) q d (flow_in m)) (ap (λ q. onto q b.done) (sym e) ∙ b.whole ∙ whole_is) b.shifted
 
-      pub pushing_next : (m' : Net) → m' ≡ taken m d t → Pushing G.ops n ls c rest d m'
-      pushing_next m' is = subst (λ k. Pushing G.ops n ls c rest d k) (sym is) (record {
-        done = t ∷ on.done;
-        whole = on.whole;
-        known = on.known.1;
-        nodes = took_nodes m t ∙ on.nodes;
-        arcs = took_same m t on.known.0 on.arcs;
-        shifted = took_shift m on.done on.shifted t next_takes;
-      })
+      graph_is : M ≡ graph G.ops m
+      graph_is = net_same G y.links.net.nodes ls m.arcs b.arcs ∙ ap (λ k. net G.ops k m.arcs) (sym b.nodes)
 
-    pub pushing_all : (p : List Step) → p ≡ [] → (m : Net) → Pushing G.ops n ls c p d m → (before : Net) → record { nodes = n; arcs = ls } ≡ before → (r : W) → r ≡ G.ops.times d w → Improves G.ops before m r
-    pushing_all p e m b before same_net r is = subst (λ k. Improves G.ops k m r) same_net (record {
-      cycle = round_cycle;
-      gainful = z.closing.gainful;
-      amount = d;
-      allowed = z.most.allowed;
-      most = z.most.most;
-      nodes = b.nodes;
-      arcs = b.arcs;
-      shifted = shifted;
-      rises = less (value G.ops net₀) r ∙ ap (λ y. G.ops.plus y (G.ops.neg (value G.ops net₀))) (sym after);
-    })
-      where
-        round_cycle : List Step
-        round_cycle = onto z.closing.trail (s ∷ [])
+      rise_is : G.ops.times d w ≡ times G.ops d (gain G.ops M c)
+      rise_is = G.laws.times_is d w ∙ ap (times G.ops d) z.gains
 
-        net₀ : Net
-        net₀ = record { nodes = n; arcs = ls }
+      after : value G.ops m ≡ G.ops.plus (value G.ops before) r
+      after = ap (λ g. worth G.ops g (flow_in m)) (sym graph_is) ∙ rise_holds G M (flow_of ls) (flow_in m) z.closing.gainful.node c d z.closing.gainful.closed shifted ∙ ap (G.ops.plus (value G.ops before)) (sym (is ∙ rise_is))
 
-        done_is : b.done ≡ round_cycle
-        done_is = ap (λ q. onto q b.done) (sym e) ∙ b.whole ∙ c_is
-
-        shifted : Shifted N (flow_of ls) round_cycle d (flow_in m)
-        shifted = subst (λ y. Shifted N (flow_of ls) y d (flow_in m)) done_is b.shifted
-
-        graph_is : N ≡ graph G.ops m
-        graph_is = net_same G n ls m.arcs b.arcs ∙ ap (λ y. net G.ops y m.arcs) (sym b.nodes)
-
-        rise_is : G.ops.times d w ≡ times G.ops d (gain G.ops N round_cycle)
-        rise_is = G.laws.times_is d w ∙ ap (times G.ops d) z.gains
-
-        after : value G.ops m ≡ G.ops.plus (value G.ops net₀) r
-        after = ap (λ g. worth G.ops g (flow_in m)) (sym graph_is) ∙ rise_holds G N (flow_of ls) (flow_in m) z.closing.gainful.node round_cycle d z.closing.gainful.closed shifted ∙ ap (G.ops.plus (value G.ops net₀)) (sym (is ∙ rise_is))
-
-        less : (a k : W) → k ≡ G.ops.plus (G.ops.plus a k) (G.ops.neg a)
-        less a k = sym (ap (λ y. G.ops.plus y (G.ops.neg a)) (G.laws.comm a k) ∙ G.laws.assoc k a (G.ops.neg a) ∙ ap (G.ops.plus k) (G.laws.inverse a) ∙ unit_right G k)
+      less : (a k : W) → k ≡ G.ops.plus (G.ops.plus a k) (G.ops.neg a)
+      less a k = sym (ap (λ v. G.ops.plus v (G.ops.neg a)) (G.laws.comm a k) ∙ G.laws.assoc k a (G.ops.neg a) ∙ ap (G.ops.plus k) (G.laws.inverse a) ∙ unit_right G k)

@@ -1,18 +1,23 @@
 -- What is known of a search and of a cycle that it has found.
-use Rattle.std.specs.Prelude.{◌≡◌, ℕ, ◌≤◌, length}
+use Rattle.std.specs.Prelude.{◌≡◌, ℕ, ◌≤◌, List, length, Some}
 use Rattle.worth.specs.Kinds.{Ops}
 use Rattle.network.specs.Networks.{Net}
 use Rattle.network.specs.Potentials.{potential}
+use Rattle.flow.specs.declared.step.Step.{Step}
 use Rattle.search.specs.declared.residual.Residual.{Residual}
 use Rattle.search.specs.declared.cycle.Cycle.{Cycle}
 use Rattle.search.specs.declared.sweep.Search.{Search}
-use Rattle.search.specs.Links.{Unlinked}
+use Rattle.search.specs.Links.{Unlinked, head_of, climb}
 use Rattle.search.specs.Sweeps.{Small, Forest, Closing}
 use Rattle.search.specs.Cycles.{Measured}
 
 -- the network whose arcs were read
 abbrev pub net_of : Residual → Net
 net_of r = record { nodes = r.nodes; arcs = r.arcs.now }
+
+-- the steps of a cycle, against their direction: the closing one, and up the links from its tail to its head
+abbrev pub round : Cycle → List Step
+round c = let ls = c.links.net.arcs.now in let ks = c.links.last.now in climb ls ks (head_of ls c.closing) (Some c.closing) (length ks)
 
 module _ {W : Type 0} (o : Ops W) where
   -- nothing is raised yet

@@ -1,9 +1,7 @@
 -- A cycle shifted along, one push after another.
-use Rattle.std.proofs.Common.{◌≡◌, ℕ, ◌+◌, ◌-◌, ◌*◌, ◌<◌, ◌≤◌, Bool, true, false, eqb, List, [], ◌∷◌, length, set, ℤ, pos, ◌+ℤ◌, ◌-ℤ◌, nat_abs, Ok, Err, Option, Result, sym, refl, ap, ◌∙◌, subst, subst₂, ⊎_elim, mul-le-mul, mul-one, mul-add, arith, w64, SFits, to_z, of_z}
+use Rattle.std.proofs.Common.{◌≡◌, ℕ, ◌+◌, ◌-◌, ◌*◌, ◌<◌, ◌≤◌, Bool, true, false, eqb, List, [], ◌∷◌, length, set, sym, refl, ap, ◌∙◌, subst, subst₂, ⊎_elim, mul-le-mul, mul-one, mul-add, arith}
 use Rattle.std.proofs.lemmas.List.{length-set, get_or-set_same, get_or-set_other}
-use Rattle.std.proofs.lemmas.Int.{ints, to_z-of_z}
 use Rattle.std.proofs.lemmas.Bool.{cases_eq, eq-eqb, ne_eqb}
-use Rattle.tables.specs.declared.refusal.Refusal.{Refusal}
 use Rattle.worth.specs.Kinds.{Ops}
 use Rattle.flow.specs.Groups.{Kind, times}
 use Rattle.flow.specs.Graphs.{Graph, when, worth}
@@ -15,10 +13,9 @@ use Rattle.flow.specs.declared.step.Step.TheVariants.{Forward, Backward}
 use Rattle.flow.proofs.Group.{unit_right}
 use Rattle.flow.proofs.Rows.{same_arc_refl, net_same}
 use Rattle.flow.proofs.Shift.{fore_capacity, rear_capacity, rise_holds}
-use Rattle.network.specs.Networks.{Net, flow_in, put_flow, graph, value}
-use Rattle.network.specs.Pushes.{Pushed}
+use Rattle.network.specs.Networks.{Net, flow_in, graph, value}
 use Rattle.search.specs.Links.{SoundArcs, onto}
-use Rattle.search.specs.Cycles.{Measured, Takes, taken}
+use Rattle.search.specs.Cycles.{Takes, taken}
 use Rattle.search.specs.Outcomes.{Improves}
 use Rattle.search.specs.declared.cycle.Cycle.{Cycle}
 use Rattle.search.specs.Searches.{net_of, round, Measures}
@@ -43,25 +40,6 @@ put_off ms j k i d = get_or-set_other ms j i (with_flow k (arc_at ms j)) blank d
 put_same : (ls ms : List Arc) (j k : ℕ) → j < length ls → SameArcs ls ms → SameArcs ls (put_arcs ms j k)
 unfolding put_arcs
 put_same ls ms j k l s = record { long = s.long ∙ sym (length-set ms j (with_flow k (arc_at ms j))); each = λ i h. ⊎_elim (λ e. subst (λ y. SameArc (arc_at ls y) (arc_at (put_arcs ms j k) y)) (sym e) (subst (SameArc (arc_at ls j)) (sym (put_at ms j k (let q = s.long in omega arith))) (same_trans (arc_at ls j) (arc_at ms j) k (s.each j l)))) (λ d. subst (SameArc (arc_at ls i)) (sym (put_off ms j k i d)) (s.each i h)) (cases_eq i j) }
-
--- a push that the arc can take is not refused
-pub pushed_to : {A : Type 0} (before after : Net) (i : ℕ) (by : ℤ) (u : ℕ) (r : Result A Refusal) → Pushed before after i by r → i < length before.arcs → pos u ≡ pos (flow_in before i) +ℤ by → u ≤ (arc_at before.arcs i).capacity → after ≡ put_flow before i u
-pushed_to before after i by u (Ok x) p l is h = p.outcome ∙ ap (put_flow before i) (sym (ap nat_abs is))
-pushed_to before after i by u (Err e) p l is h =
-    let z = (p.refused.1 (λ a. omega arith)).1 (λ a. ⊎_elim (λ b. omega (arith, ints)) (λ b. omega (arith, ints)) a) in
-    absurd (let q : ◌≡◌ {A = ℕ} 0 1 = cc in omega arith)
-
--- flows as the machine adds them
-pub plus_is : (f d : ℕ) (x : ℤ) → d ≤ 1000 → x ≡ pos d → pos (f + d) ≡ pos f +ℤ to_z w64 (of_z w64 x)
-plus_is f d x h e =
-    let s : SFits w64 x = omega (arith, ints) in
-    rw (to_z-of_z w64 x s) (omega (arith, ints))
-
-pub minus_is : (f d : ℕ) (x : ℤ) → d ≤ 1000 → d ≤ f → x ≡ pos d → pos (f - d) ≡ pos f +ℤ to_z w64 (of_z w64 (pos 0 -ℤ to_z w64 (of_z w64 x)))
-minus_is f d x h l e =
-    let s : SFits w64 x = omega (arith, ints) in
-    let t : SFits w64 (pos 0 -ℤ x) = omega (arith, ints) in
-    rw (to_z-of_z w64 x s, to_z-of_z w64 (pos 0 -ℤ x) t) (omega (arith, ints))
 
 -- d for each step along an arc: one step more, or another arc
 one_more : (d f : ℕ) (b : Bool) → b ≡ true → d * (when b 1 + f) ≡ d + d * f
@@ -148,12 +126,6 @@ module _ {W : Type 0} (G : Kind W) (n : ℕ) (ls : List Arc) (d : ℕ) where
       let c = sh j l in
       let f = s.long in
       (omega arith, omega arith)
-
-  shift_none : (m : Net) → ls ≡ m.arcs → Shifted N (flow_of ls) [] d (flow_in m)
-  shift_none m e i h = ap (λ a. flow_of a i + d * 0) (sym e)
-
-  same_none : (m : Net) → ls ≡ m.arcs → SameArcs ls m.arcs
-  same_none m e = subst (SameArcs ls) e (record { long = refl; each = λ i l. same_arc_refl (arc_at ls i) })
 
 module _ {W : Type 0} (G : Kind W) (y : Cycle) {d : ℕ} {w : W} (z : Measures G.ops y d w) where
   abbrev ls : List Arc

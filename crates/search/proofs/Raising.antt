@@ -1,9 +1,9 @@
 -- Steps relaxed one after another, and sweep after sweep.
-use Rattle.std.proofs.Common.{get_or, ◌≡◌, ℕ, zero, suc, [], ◌∷◌, ◌+◌, ◌*◌, ◌<◌, ◌≤◌, Bool, true, false, ◌||◌, List, length, set, Some, None, Option, sym, refl, ap, ◌∙◌, subst, ap₂, subst₂, ⊎_elim, arith}
-use Rattle.std.proofs.lemmas.Bool.{cases_eq, false≢true, true≢false, cases_lt}
+use Rattle.std.proofs.Common.{get_or, ◌≡◌, ℕ, zero, suc, [], ◌∷◌, ◌+◌, ◌*◌, ◌<◌, ◌≤◌, Bool, true, false, ◌||◌, List, length, set, Some, Option, sym, refl, ap, ◌∙◌, subst, ap₂, subst₂, ⊎_elim, arith}
+use Rattle.std.proofs.lemmas.Bool.{cases_eq, true≢false, cases_lt}
 use Rattle.std.proofs.lemmas.List.{get_or-set_same, get_or-set_other}
 use Rattle.flow.specs.Groups.{Kind, Lt, Le}
-use Rattle.flow.specs.Graphs.{Graph, Sound, Fits}
+use Rattle.flow.specs.Graphs.{Graph, Sound}
 use Rattle.flow.specs.Arcs.{net, flow_of}
 use Rattle.flow.specs.Steps.{arc, Open, step_worth}
 use Rattle.flow.specs.declared.arc.Arc.{Arc}
@@ -13,18 +13,13 @@ use Rattle.flow.proofs.Group.{le_trans, le_right, lt_le, le_lt_trans, le_eq, le_
 use Rattle.flow.proofs.Reach.{reach, sweep_above, fits_from}
 use Rattle.network.specs.Potentials.{potential}
 use Rattle.std.specs.declared.ops.ControlFlow.TheVariants.{Continue}
-use Rattle.search.specs.Links.{SoundArcs, tail_of, head_of, residual_of, Unlinked, Linked, Rooted, Told}
-use Rattle.search.specs.Sweeps.{code, Small, offer, Offered, Forest, Closing, Relaxed, Swept, Sweeps, Found}
+use Rattle.search.specs.Links.{tail_of, head_of, residual_of, Linked, Rooted, Told}
+use Rattle.search.specs.Sweeps.{code, Small, offer, Offered, Forest, Closing, Relaxed, Swept, Sweeps}
 use Rattle.search.specs.Searches.{Growing}
 use Rattle.search.specs.declared.sweep.Search.{Search}
 use Rattle.search.specs.declared.links.Links.{Links}
 use Rattle.worth.specs.Kinds.{Ops}
-use Rattle.search.proofs.Forests.{tail_in, head_in, step_small, bare, forest_linked, forest_rooted, way_short, under, closes, grown}
-
--- a step's number tells the step
-pub code_arc : (s : Step) (m : ℕ) → code s < 2 * m → arc s < m
-code_arc (Forward i) m h = omega arith
-code_arc (Backward i) m h = omega arith
+use Rattle.search.proofs.Forests.{tail_in, head_in, step_small, forest_linked, forest_rooted, way_short, under, closes, grown}
 
 arc_code : (s : Step) (m : ℕ) → arc s < m → code s < 2 * m
 arc_code (Forward i) m h = omega arith
@@ -93,10 +88,6 @@ module _ {W : Type 0} (G : Kind W) (n : ℕ) (ls : List Arc) where
   abbrev N : Graph W
   N = net G.ops n ls
 
-  -- a sweep, step by step
-  pub swept_none : (xs : List W) (ks : List (Option Step)) → Forest G.ops n ls xs ks → Swept G.ops n ls xs xs ks false 0
-  swept_none xs ks f = record { forest = f; up = λ v l. G.laws.irreflexive (potential G.ops xs v); done = λ s o h. absurd (omega arith); rose = λ e. absurd (false≢true e); same = λ e. refl; sizes = λ b h v. let k = h v in omega arith }
-
   module _ (xs xs₁ xs₂ : List W) (ks₁ ks₂ : List (Option Step)) (moved : Bool) (k : ℕ) (s₀ : Step) (number : code s₀ ≡ k) (w : Swept G.ops n ls xs xs₁ ks₁ moved k) where
     -- what a step offered at first it offers still
     lifts : (s : Step) → Open N (flow_of ls) s → Le G.ops (offer G.ops n ls xs s) (offer G.ops n ls xs₁ s)
@@ -159,14 +150,6 @@ module _ {W : Type 0} (G : Kind W) (n : ℕ) (ls : List Arc) where
     pub early : 0 < n → k < n
     pub sizes : Small G.ops (896 * k) xs
 
-  pub sweeping_none : (xs : List W) (ks : List (Option Step)) → SoundArcs n ls → length xs ≡ n → n ≤ length ks → ((v : ℕ) → potential G.ops xs v ≡ G.ops.none) → Unlinked ks → Sweeping xs ks 0
-  sweeping_none xs ks z e f none unlinked = record {
-    forest = bare G n ls xs ks z e f none unlinked;
-    above = λ v l. le_eq G G.ops.none (potential G.ops xs v) (sym (none v));
-    early = λ p. p;
-    sizes = λ v. omega (arith, ap G.ops.size (none v), G.laws.size_none);
-  }
-
   pub moved_on : (xs xs' : List W) (ks ks' : List (Option Step)) (k : ℕ) → length ls ≤ 448 → Sweeping xs ks k → Swept G.ops n ls xs xs' ks' true (2 * length ls) → Sweeping xs' ks' (k + 1)
   moved_on xs xs' ks ks' k few r w = record {
     forest = w.forest;
@@ -186,13 +169,6 @@ module _ {W : Type 0} (G : Kind W) (n : ℕ) (ls : List Arc) where
           let z = w.rose refl in
           let v = z.0 in
           le_lt_absurd G (potential G.ops xs' v) (potential G.ops xs v) (le_trans G (potential G.ops xs' v) (reach G N (flow_of ls) k v) (potential G.ops xs v) (under G n ls xs' ks' w.forest k v (omega arith) z.1) (r.above v z.1)) z.2
-
-  pub found_still : (xs xs' : List W) (ks ks' : List (Option Step)) (k : ℕ) → k ≤ 272 → Sweeping xs ks k → (xs' ≡ xs) × Fits G.ops N (potential G.ops xs) (flow_of ls) → Found G.ops n ls xs' ks' None
-  found_still xs xs' ks ks' k few r c = subst (λ ys. Found G.ops n ls ys ks' None) (sym c.0) (c.1, λ v. let z = r.sizes v in omega arith)
-
-  -- as many sweeps as there are nodes come only where there is no node
-  pub found_none : (xs : List W) (ks : List (Option Step)) (k : ℕ) → n ≤ k → k ≤ 272 → Sweeping xs ks k → Found G.ops n ls xs ks None
-  found_none xs ks k h few r = ⊎_elim (λ p. absurd (let b = r.early p in omega arith)) (λ z. (λ i l. absurd (let b = (r.forest.sound i l).from_in in omega arith), λ v. let q = r.sizes v in omega arith)) (cases_lt 0 n)
 
 -- the search t has come from s by relaxing the steps numbered below k
 pub record SweptTo {W : Type 0} (o : Ops W) (s t : Search W) (moved : Bool) (k : ℕ) : Type 0 where

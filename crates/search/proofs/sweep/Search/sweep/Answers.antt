@@ -1,4 +1,4 @@
-use Rattle.std.proofs.Common.{◌≡◌, ◌+◌, ◌*◌, get_or, arith}
+use Rattle.std.proofs.Common.{◌≡◌, get_or, arith}
 use Rattle.flow.specs.Steps.{arc}
 use Rattle.flow.specs.declared.step.Step.TheVariants.{Forward}
 use Rattle.flow.specs.Groups.{kind}

@@ -15,7 +15,7 @@ use Rattle.network.specs.Potentials.{potential}
 use Rattle.std.specs.declared.ops.ControlFlow.TheVariants.{Continue}
 use Rattle.search.specs.Links.{tail_of, head_of, residual_of, Linked, Rooted, Told}
 use Rattle.search.specs.Sweeps.{code, Small, offer, Offered, Forest, Closing, Relaxed, Swept, Sweeps}
-use Rattle.search.specs.Searches.{Growing}
+use Rattle.search.specs.Searches.{Same, Growing}
 use Rattle.search.specs.declared.sweep.Search.{Search}
 use Rattle.search.specs.declared.links.Links.{Links}
 use Rattle.worth.specs.Kinds.{Ops}
@@ -170,33 +170,33 @@ module _ {W : Type 0} (G : Kind W) (n : ℕ) (ls : List Arc) where
           let v = z.0 in
           le_lt_absurd G (potential G.ops xs' v) (potential G.ops xs v) (le_trans G (potential G.ops xs' v) (reach G N (flow_of ls) k v) (potential G.ops xs v) (under G n ls xs' ks' w.forest k v (omega arith) z.1) (r.above v z.1)) z.2
 
+same_on : {W : Type 0} {s t u : Search W} → Same s t → Same t u → Same s u
+same_on a b = record { net = b.net ∙ a.net; held = b.held ∙ a.held }
+
 -- the search t has come from s by relaxing the steps numbered below k
 pub record SweptTo {W : Type 0} (o : Ops W) (s t : Search W) (moved : Bool) (k : ℕ) : Type 0 where
-  pub net : t.net ≡ s.net
-  pub held : t.potentials.ghost_name ≡ s.potentials.ghost_name
+  pub same : Same s t
   pub swept : Swept o s.net.nodes s.net.arcs.now s.potentials.now t.potentials.now t.links moved k
 
 module _ {W : Type 0} (G : Kind W) {s t : Search W} {moved : Bool} {k : ℕ} (w : SweptTo G.ops s t moved k) where
   pub may_relax : Growing G.ops 999000 s → k ≤ 1000 → Growing G.ops 1000000 t
-  may_relax r h = record { forest = subst (λ n. Forest G.ops n.nodes n.arcs.now t.potentials.now t.links) (sym w.net) w.swept.forest; small = λ v. let z = w.swept.sizes 999000 r.small v in omega arith }
+  may_relax r h = record { forest = subst (λ n. Forest G.ops n.nodes n.arcs.now t.potentials.now t.links) (sym w.same.net) w.swept.forest; small = λ v. let z = w.swept.sizes 999000 r.small v in omega arith }
 
-  pub swept_on : {u : Search W} → u.net ≡ t.net → u.potentials.ghost_name ≡ t.potentials.ghost_name → (step : Step) → code step ≡ k → arc step < length s.net.arcs.now → (r : Bool) → Relaxed G.ops t.net.nodes t.net.arcs.now t.potentials.now t.links u.potentials.now u.links step (Continue r) → {k' : ℕ} → k' ≡ k + 1 → SweptTo G.ops s u (moved || r) k'
-  swept_on {u} net held step number known r o next =
-      let relaxed = subst (λ n. Relaxed G.ops n.nodes n.arcs.now t.potentials.now t.links u.potentials.now u.links step (Continue r)) w.net o in
-      record { net = net ∙ w.net; held = held ∙ w.held; swept = subst (Swept G.ops s.net.nodes s.net.arcs.now s.potentials.now u.potentials.now u.links (moved || r)) (sym next) (swept_relaxed G s.net.nodes s.net.arcs.now s.potentials.now t.potentials.now u.potentials.now t.links u.links moved k step number w.swept known r relaxed) }
+  pub swept_on : {u : Search W} → Same t u → (step : Step) → code step ≡ k → arc step < length s.net.arcs.now → (r : Bool) → Relaxed G.ops t.net.nodes t.net.arcs.now t.potentials.now t.links u.potentials.now u.links step (Continue r) → {k' : ℕ} → k' ≡ k + 1 → SweptTo G.ops s u (moved || r) k'
+  swept_on {u} same step number known r o next =
+      let relaxed = subst (λ n. Relaxed G.ops n.nodes n.arcs.now t.potentials.now t.links u.potentials.now u.links step (Continue r)) w.same.net o in
+      record { same = same_on w.same same; swept = subst (Swept G.ops s.net.nodes s.net.arcs.now s.potentials.now u.potentials.now u.links (moved || r)) (sym next) (swept_relaxed G s.net.nodes s.net.arcs.now s.potentials.now t.potentials.now u.potentials.now t.links u.links moved k step number w.swept known r relaxed) }
 
   pub sweep_done : k ≡ 2 * length s.net.arcs.now → Sweeps G.ops s.net.nodes s.net.arcs.now s.potentials.now t.potentials.now t.links (Continue moved)
   sweep_done all = swept_all G s.net.nodes s.net.arcs.now s.potentials.now t.potentials.now t.links moved k all w.swept
 
 -- the search t has come from s by k sweeps that all raised something
 pub record SearchedTo {W : Type 0} (G : Kind W) (s t : Search W) (k : ℕ) : Type 0 where
-  pub net : t.net ≡ s.net
-  pub held : t.potentials.ghost_name ≡ s.potentials.ghost_name
+  pub same : Same s t
   pub sweeping : Sweeping G s.net.nodes s.net.arcs.now t.potentials.now t.links k
 
-pub searched_on : {W : Type 0} (G : Kind W) {s t : Search W} {k : ℕ} → SearchedTo G s t k → {u : Search W} → u.net ≡ t.net → u.potentials.ghost_name ≡ t.potentials.ghost_name → {r : Bool} → r ≡ true → Sweeps G.ops t.net.nodes t.net.arcs.now t.potentials.now u.potentials.now u.links (Continue r) → SearchedTo G s u (k + 1)
-searched_on G {s} {t} {k} w {u} net held raised sweeps = record {
-  net = net ∙ w.net;
-  held = held ∙ w.held;
-  sweeping = moved_on G s.net.nodes s.net.arcs.now t.potentials.now u.potentials.now t.links u.links k s.net.sound.few_arcs w.sweeping (subst₂ (λ n b. Sweeps G.ops n.nodes n.arcs.now t.potentials.now u.potentials.now u.links (Continue b)) w.net raised sweeps);
+pub searched_on : {W : Type 0} (G : Kind W) {s t : Search W} {k : ℕ} → SearchedTo G s t k → {u : Search W} → Same t u → {r : Bool} → r ≡ true → Sweeps G.ops t.net.nodes t.net.arcs.now t.potentials.now u.potentials.now u.links (Continue r) → SearchedTo G s u (k + 1)
+searched_on G {s} {t} {k} w {u} same raised sweeps = record {
+  same = same_on w.same same;
+  sweeping = moved_on G s.net.nodes s.net.arcs.now t.potentials.now u.potentials.now t.links u.links k s.net.sound.few_arcs w.sweeping (subst₂ (λ n b. Sweeps G.ops n.nodes n.arcs.now t.potentials.now u.potentials.now u.links (Continue b)) w.same.net raised sweeps);
 }

@@ -16,7 +16,7 @@ loop-step-preserved g c =
     let k = c.loop-step.step-index in
     let step = get_or p k (Forward 0) in
     let arc-is : arc step ≡ i = both_arc p i k (Forward 0) both c.loop-step-test.true in
-    swept_on (kind g.W.Worth.ops g.met.W.Worth.lawful) c.loop-step.invariant c.relax.ensures.net c.relax.ensures.held step (both_code p i k (Forward 0) both c.loop-step-test.true) (let t = c.loop-i-test.true in omega arith) c.in_ok-moved.field-0 c.in_ok-moved.ensures.relaxed (omega arith)
+    swept_on (kind g.W.Worth.ops g.met.W.Worth.lawful) c.loop-step.invariant c.relax.ensures.same step (both_code p i k (Forward 0) both c.loop-step-test.true) (let t = c.loop-i-test.true in omega arith) c.in_ok-moved.field-0 c.in_ok-moved.ensures.relaxed (omega arith)
 
 pub returns-clause-sweeps : goal.returns-clause-sweeps
 returns-clause-sweeps g c = sweep_done (kind g.W.Worth.ops g.met.W.Worth.lawful) c.loop-i.invariant (let t = c.loop-i-test.false in let e = c.loop-i.auto.i-end in omega arith)

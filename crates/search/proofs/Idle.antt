@@ -5,10 +5,11 @@ use Rattle.flow.specs.Graphs.{Graph, Fits}
 use Rattle.flow.specs.Steps.{start, stop, step_worth, Walk, gain, Gainful}
 use Rattle.flow.specs.declared.step.Step.{Step}
 use Rattle.flow.specs.declared.step.Step.TheVariants.{Forward, Backward}
-use Rattle.flow.specs.declared.arc.Arc.{Arc}
 use Rattle.network.specs.Networks.{Net, flow_in, graph}
 use Rattle.network.specs.Potentials.{potential}
 use Rattle.search.specs.Sweeps.{Found}
+use Rattle.search.specs.declared.sweep.Search.{Search}
+use Rattle.search.specs.Searches.{Finds}
 use Rattle.search.specs.Outcomes.{Improving}
 use Rattle.search.proofs.Working.{beyond_none}
 use Rattle.flow.proofs.Group.{unit_right, shift, le_eq, le_trans, le_right, le_lt_absurd}
@@ -34,10 +35,10 @@ module _ {W : Type 0} (G : Kind W) (N : Graph W) (L : ℕ → W) (u : ℕ → �
       le_lt_absurd G (G.ops.plus (L g.node) (gain G.ops N c)) (L g.node) (walk_fits g.node c g.node g.closed)
       (subst (λ x. Lt G.ops x (G.ops.plus (L g.node) (gain G.ops N c))) (unit_right G (L g.node)) (shift G (L g.node) G.ops.none (gain G.ops N c) ∙ g.gains))
 
--- where the search finds no cycle, the network is best
-pub best : {W : Type 0} (G : Kind W) (before : Net) (work row : List W) (ks : List (Option Step)) (n : ℕ) (ls : List Arc) → n ≡ before.nodes → ls ≡ before.arcs → Found G.ops n ls row ks None → (work' : List W) → length work ≡ before.nodes → length work' ≡ length work → work' ≡ row → (r : Option W) → r ≡ None → Improving G.ops before before work work' (Ok r)
-best G before work row ks n ls n-is ls-is found work' long same is r none =
-    let f = subst₂ (λ k rs. Found G.ops k rs row ks None) n-is ls-is found in
+-- where a search ends without a cycle, the network is best
+pub best : {W : Type 0} (G : Kind W) (s : Search W) → Finds G.ops s None → {before : Net} → s.net.nodes ≡ before.nodes → s.net.arcs.now ≡ before.arcs → (work : List W) → length work ≡ before.nodes → (work' : List W) → length work' ≡ length work → work' ≡ s.potentials.now → {r : Option W} → r ≡ None → Improving G.ops before before work work' (Ok r)
+best G s found {before} nodes-is arcs-is work long work' same is none =
+    let f = subst₂ (λ n ls. Found G.ops n ls s.potentials.now s.links None) nodes-is arcs-is found in
     let fits = subst (λ xs. Fits G.ops (graph G.ops before) (potential G.ops xs) (flow_in before)) (sym is) f.0 in
     subst (λ x. Improving G.ops before before work work' (Ok x)) (sym none) (
       refl,

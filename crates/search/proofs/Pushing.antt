@@ -1,9 +1,7 @@
 -- A cycle shifted along, one push after another.
-use Rattle.std.proofs.Common.{◌≡◌, ℕ, ◌+◌, ◌-◌, ◌*◌, ◌<◌, ◌≤◌, Bool, true, false, eqb, List, [], ◌∷◌, length, set, ℤ, pos, ◌+ℤ◌, ◌-ℤ◌, nat_abs, Ok, Err, Option, Result, sym, refl, ap, ◌∙◌, subst, subst₂, ⊎_elim, mul-le-mul, mul-one, mul-add, arith, w64, SFits, to_z, of_z}
+use Rattle.std.proofs.Common.{◌≡◌, ℕ, ◌+◌, ◌-◌, ◌*◌, ◌<◌, ◌≤◌, Bool, true, false, eqb, List, [], ◌∷◌, length, set, sym, refl, ap, ◌∙◌, subst, subst₂, ⊎_elim, mul-le-mul, mul-one, mul-add, arith}
 use Rattle.std.proofs.lemmas.List.{length-set, get_or-set_same, get_or-set_other}
-use Rattle.std.proofs.lemmas.Int.{ints, to_z-of_z}
 use Rattle.std.proofs.lemmas.Bool.{cases_eq, eq-eqb, ne_eqb}
-use Rattle.tables.specs.declared.refusal.Refusal.{Refusal}
 use Rattle.worth.specs.Kinds.{Ops}
 use Rattle.flow.specs.Groups.{Kind, times}
 use Rattle.flow.specs.Graphs.{Graph, when, worth}
@@ -15,13 +13,14 @@ use Rattle.flow.specs.declared.step.Step.TheVariants.{Forward, Backward}
 use Rattle.flow.proofs.Group.{unit_right}
 use Rattle.flow.proofs.Rows.{same_arc_refl, net_same}
 use Rattle.flow.proofs.Shift.{fore_capacity, rear_capacity, rise_holds}
-use Rattle.network.specs.Networks.{Net, flow_in, put_flow, graph, value}
-use Rattle.network.specs.Pushes.{Pushed}
+use Rattle.network.specs.Networks.{Net, flow_in, graph, value}
 use Rattle.search.specs.Links.{SoundArcs, onto}
-use Rattle.search.specs.Cycles.{Measured, Takes, taken}
+use Rattle.search.specs.Cycles.{Takes, taken}
 use Rattle.search.specs.Outcomes.{Improves}
+use Rattle.search.specs.declared.cycle.Cycle.{Cycle}
+use Rattle.search.specs.Searches.{net_of, round, Measures}
 use Rattle.search.proofs.Ways.{Known}
-use Rattle.search.proofs.Rounds.{round, round_is, round_known, onto_allows, residual_small}
+use Rattle.search.proofs.Rounds.{round_is, round_known, onto_allows, residual_small}
 
 -- a list of arcs with the flow of one changed
 put_arcs : List Arc → ℕ → ℕ → List Arc
@@ -42,25 +41,6 @@ put_same : (ls ms : List Arc) (j k : ℕ) → j < length ls → SameArcs ls ms �
 unfolding put_arcs
 put_same ls ms j k l s = record { long = s.long ∙ sym (length-set ms j (with_flow k (arc_at ms j))); each = λ i h. ⊎_elim (λ e. subst (λ y. SameArc (arc_at ls y) (arc_at (put_arcs ms j k) y)) (sym e) (subst (SameArc (arc_at ls j)) (sym (put_at ms j k (let q = s.long in omega arith))) (same_trans (arc_at ls j) (arc_at ms j) k (s.each j l)))) (λ d. subst (SameArc (arc_at ls i)) (sym (put_off ms j k i d)) (s.each i h)) (cases_eq i j) }
 
--- a push that the arc can take is not refused
-pub pushed_to : {A : Type 0} (before after : Net) (i : ℕ) (by : ℤ) (u : ℕ) (r : Result A Refusal) → Pushed before after i by r → i < length before.arcs → pos u ≡ pos (flow_in before i) +ℤ by → u ≤ (arc_at before.arcs i).capacity → after ≡ put_flow before i u
-pushed_to before after i by u (Ok x) p l is h = p.outcome ∙ ap (put_flow before i) (sym (ap nat_abs is))
-pushed_to before after i by u (Err e) p l is h =
-    let z = (p.refused.1 (λ a. omega arith)).1 (λ a. ⊎_elim (λ b. omega (arith, ints)) (λ b. omega (arith, ints)) a) in
-    absurd (let q : ◌≡◌ {A = ℕ} 0 1 = cc in omega arith)
-
--- flows as the machine adds them
-pub plus_is : (f d : ℕ) (x : ℤ) → d ≤ 1000 → x ≡ pos d → pos (f + d) ≡ pos f +ℤ to_z w64 (of_z w64 x)
-plus_is f d x h e =
-    let s : SFits w64 x = omega (arith, ints) in
-    rw (to_z-of_z w64 x s) (omega (arith, ints))
-
-pub minus_is : (f d : ℕ) (x : ℤ) → d ≤ 1000 → d ≤ f → x ≡ pos d → pos (f - d) ≡ pos f +ℤ to_z w64 (of_z w64 (pos 0 -ℤ to_z w64 (of_z w64 x)))
-minus_is f d x h l e =
-    let s : SFits w64 x = omega (arith, ints) in
-    let t : SFits w64 (pos 0 -ℤ x) = omega (arith, ints) in
-    rw (to_z-of_z w64 x s, to_z-of_z w64 (pos 0 -ℤ x) t) (omega (arith, ints))
-
 -- d for each step along an arc: one step more, or another arc
 one_more : (d f : ℕ) (b : Bool) → b ≡ true → d * (when b 1 + f) ≡ d + d * f
 one_more d f b e = ap (λ c. d * (when c 1 + f)) e ∙ mul-add d 1 f ∙ ap (λ t. t + d * f) (mul-one d)
@@ -68,14 +48,14 @@ one_more d f b e = ap (λ c. d * (when c 1 + f)) e ∙ mul-add d 1 f ∙ ap (λ 
 no_more : (d f : ℕ) (b : Bool) → b ≡ false → d * (when b 1 + f) ≡ d * f
 no_more d f b e = ap (λ c. d * (when c 1 + f)) e ∙ ap (◌*◌ d) (omega arith)
 
--- what the pushes so far have done, part of the way round the cycle c, where rest is to come
-pub record Pushing {W : Type 0} (o : Ops W) (n : ℕ) (ls : List Arc) (c rest : List Step) (d : ℕ) (m : Net) : Type 0 where
+-- what the pushes so far have done, part of the way round a cycle, where rest is to come
+pub record Pushing {W : Type 0} (o : Ops W) (y : Cycle) (rest : List Step) (d : ℕ) (m : Net) : Type 0 where
   pub done : List Step
-  pub whole : onto rest done ≡ c
-  pub known : Known ls rest
-  pub nodes : m.nodes ≡ n
-  pub arcs : SameArcs ls m.arcs
-  pub shifted : Shifted (net o n ls) (flow_of ls) done d (flow_in m)
+  pub whole : onto rest done ≡ onto (round y) []
+  pub known : Known y.links.net.arcs.now rest
+  pub nodes : m.nodes ≡ y.links.net.nodes
+  pub arcs : SameArcs y.links.net.arcs.now m.arcs
+  pub shifted : Shifted (net o y.links.net.nodes y.links.net.arcs.now) (flow_of y.links.net.arcs.now) done d (flow_in m)
 
 module _ {W : Type 0} (G : Kind W) (n : ℕ) (ls : List Arc) (d : ℕ) where
   abbrev N : Graph W
@@ -147,92 +127,86 @@ module _ {W : Type 0} (G : Kind W) (n : ℕ) (ls : List Arc) (d : ℕ) where
       let f = s.long in
       (omega arith, omega arith)
 
-  shift_none : (m : Net) → ls ≡ m.arcs → Shifted N (flow_of ls) [] d (flow_in m)
-  shift_none m e i h = ap (λ a. flow_of a i + d * 0) (sym e)
+module _ {W : Type 0} (G : Kind W) (y : Cycle) {d : ℕ} {w : W} (z : Measures G.ops y d w) where
+  abbrev ls : List Arc
+  ls = y.links.net.arcs.now
 
-  same_none : (m : Net) → ls ≡ m.arcs → SameArcs ls m.arcs
-  same_none m e = subst (SameArcs ls) e (record { long = refl; each = λ i l. same_arc_refl (arc_at ls i) })
+  abbrev M : Graph W
+  M = net G.ops y.links.net.nodes ls
 
-  module _ (sound : SoundArcs n ls) (ks : List (Option Step)) (s : Step) (w : W) (long : n ≤ length ks) (z : Measured G.ops n ls ks s d w) where
-    -- the cycle
-    abbrev c : List Step
-    c = onto (round ls ks s) []
+  -- the cycle
+  abbrev c : List Step
+  c = onto z.closing.trail (y.closing ∷ [])
 
-    c_is : c ≡ onto z.closing.trail (s ∷ [])
-    c_is = ap (λ p. onto p []) (round_is long z.closing)
+  whole_is : onto (round y) [] ≡ c
+  whole_is = ap (λ p. onto p []) (round_is y z.closing)
 
-    pub amount_small : d ≤ 1000
-    amount_small =
-        let a = (onto_allows N (flow_of ls) d z.closing.trail (s ∷ []) z.most.allowed).0 in
-        let b = residual_small G.ops n ls sound s z.closing.known in
-        omega arith
+  amount_small : d ≤ 1000
+  amount_small =
+      let a = (onto_allows M (flow_of ls) d z.closing.trail (y.closing ∷ []) z.most.allowed).0 in
+      let b = residual_small G.ops y.links.net.nodes ls y.links.net.sound.each y.closing z.closing.known in
+      omega arith
 
-    pub rise_fits : d * G.ops.size w ≤ 4194304
-    rise_fits = let b = mul-le-mul amount_small z.small in omega arith
+  pub rise_fits : d * G.ops.size w ≤ 4194304
+  rise_fits = let b = mul-le-mul amount_small z.small in omega arith
 
-    pub pushing_first : (p : List Step) → p ≡ round ls ks s → (m : Net) → record { nodes = n; arcs = ls } ≡ m → Pushing G.ops n ls c p d m
-    pushing_first p e m is = subst₂ (λ q k. Pushing G.ops n ls c q d k) (sym e) is (record {
-      done = [];
-      whole = refl;
-      known = round_known z.closing;
-      nodes = refl;
-      arcs = record { long = refl; each = λ i l. same_arc_refl (arc_at ls i) };
-      shifted = λ i h. refl;
+  pub pushing_first : {p : List Step} → p ≡ round y → {m : Net} → net_of y.links.net ≡ m → Pushing G.ops y p d m
+  pushing_first e is = subst₂ (λ q k. Pushing G.ops y q d k) (sym e) is (record {
+    done = [];
+    whole = refl;
+    known = round_known y z.closing;
+    nodes = refl;
+    arcs = record { long = refl; each = λ i l. same_arc_refl (arc_at ls i) };
+    shifted = λ i h. refl;
+  })
+
+  -- one step more
+  module _ {p rest : List Step} {t : Step} (e : p ≡ t ∷ rest) {m : Net} (b : Pushing G.ops y p d m) where
+    on : Pushing G.ops y (t ∷ rest) d m
+    on = subst (λ q. Pushing G.ops y q d m) e b
+
+    pub next_takes : Takes m d t
+    next_takes =
+        let is = on.whole ∙ whole_is in
+        takes G y.links.net.nodes ls d y.links.net.sound.each m on.done t on.arcs on.shifted on.known.0 (onto_apart G y.links.net.nodes ls d rest (t ∷ on.done) (subst (λ q. Apart (starts M q)) (sym is) z.closing.gainful.apart)) (onto_allows M (flow_of ls) d rest (t ∷ on.done) (subst (λ q. Allows M (flow_of ls) q d) (sym is) z.most.allowed))
+
+    pub pushing_next : {m' : Net} → m' ≡ taken m d t → Pushing G.ops y rest d m'
+    pushing_next is = subst (λ k. Pushing G.ops y rest d k) (sym is) (record {
+      done = t ∷ on.done;
+      whole = on.whole;
+      known = on.known.1;
+      nodes = took_nodes G y.links.net.nodes ls d m t ∙ on.nodes;
+      arcs = took_same G y.links.net.nodes ls d m t on.known.0 on.arcs;
+      shifted = took_shift G y.links.net.nodes ls d m on.done on.shifted t next_takes;
     })
 
-    -- one step more
-    module _ (p rest : List Step) (t : Step) (e : p ≡ t ∷ rest) (m : Net) (b : Pushing G.ops n ls c p d m) where
-      on : Pushing G.ops n ls c (t ∷ rest) d m
-      on = subst (λ q. Pushing G.ops n ls c q d m) e b
+  pub pushing_all : {p : List Step} → p ≡ [] → {m : Net} → Pushing G.ops y p d m → {before : Net} → net_of y.links.net ≡ before → {r : W} → r ≡ G.ops.times d w → Improves G.ops before m r
+  pushing_all e {m} b same_net {r} is = subst (λ k. Improves G.ops k m r) same_net (record {
+    cycle = c;
+    gainful = z.closing.gainful;
+    amount = d;
+    allowed = z.most.allowed;
+    most = z.most.most;
+    nodes = b.nodes;
+    arcs = b.arcs;
+    shifted = shifted;
+    rises = less (value G.ops before) r ∙ ap (λ v. G.ops.plus v (G.ops.neg (value G.ops before))) (sym after);
+  })
+    where
+      before : Net
+      before = net_of y.links.net
 
-      pub next_takes : Takes m d t
-      next_takes =
-          let is = on.whole ∙ c_is in
-          takes sound m on.done t on.arcs on.shifted on.known.0 (onto_apart rest (t ∷ on.done) (subst (λ y. Apart (starts N y)) (sym is) z.closing.gainful.apart)) (onto_allows N (flow_of ls) d rest (t ∷ on.done) (subst (λ y. Allows N (flow_of ls) y d) (sym is) z.most.allowed))
+      shifted : Shifted M (flow_of ls) c d (flow_in m)
+      shifted = subst (λ q. Shifted M (flow_of ls) q d (flow_in m)) (ap (λ q. onto q b.done) (sym e) ∙ b.whole ∙ whole_is) b.shifted
 
-      pub pushing_next : (m' : Net) → m' ≡ taken m d t → Pushing G.ops n ls c rest d m'
-      pushing_next m' is = subst (λ k. Pushing G.ops n ls c rest d k) (sym is) (record {
-        done = t ∷ on.done;
-        whole = on.whole;
-        known = on.known.1;
-        nodes = took_nodes m t ∙ on.nodes;
-        arcs = took_same m t on.known.0 on.arcs;
-        shifted = took_shift m on.done on.shifted t next_takes;
-      })
+      graph_is : M ≡ graph G.ops m
+      graph_is = net_same G y.links.net.nodes ls m.arcs b.arcs ∙ ap (λ k. net G.ops k m.arcs) (sym b.nodes)
 
-    pub pushing_all : (p : List Step) → p ≡ [] → (m : Net) → Pushing G.ops n ls c p d m → (before : Net) → record { nodes = n; arcs = ls } ≡ before → (r : W) → r ≡ G.ops.times d w → Improves G.ops before m r
-    pushing_all p e m b before same_net r is = subst (λ k. Improves G.ops k m r) same_net (record {
-      cycle = round_cycle;
-      gainful = z.closing.gainful;
-      amount = d;
-      allowed = z.most.allowed;
-      most = z.most.most;
-      nodes = b.nodes;
-      arcs = b.arcs;
-      shifted = shifted;
-      rises = less (value G.ops net₀) r ∙ ap (λ y. G.ops.plus y (G.ops.neg (value G.ops net₀))) (sym after);
-    })
-      where
-        round_cycle : List Step
-        round_cycle = onto z.closing.trail (s ∷ [])
+      rise_is : G.ops.times d w ≡ times G.ops d (gain G.ops M c)
+      rise_is = G.laws.times_is d w ∙ ap (times G.ops d) z.gains
 
-        net₀ : Net
-        net₀ = record { nodes = n; arcs = ls }
+      after : value G.ops m ≡ G.ops.plus (value G.ops before) r
+      after = ap (λ g. worth G.ops g (flow_in m)) (sym graph_is) ∙ rise_holds G M (flow_of ls) (flow_in m) z.closing.gainful.node c d z.closing.gainful.closed shifted ∙ ap (G.ops.plus (value G.ops before)) (sym (is ∙ rise_is))
 
-        done_is : b.done ≡ round_cycle
-        done_is = ap (λ q. onto q b.done) (sym e) ∙ b.whole ∙ c_is
-
-        shifted : Shifted N (flow_of ls) round_cycle d (flow_in m)
-        shifted = subst (λ y. Shifted N (flow_of ls) y d (flow_in m)) done_is b.shifted
-
-        graph_is : N ≡ graph G.ops m
-        graph_is = net_same G n ls m.arcs b.arcs ∙ ap (λ y. net G.ops y m.arcs) (sym b.nodes)
-
-        rise_is : G.ops.times d w ≡ times G.ops d (gain G.ops N round_cycle)
-        rise_is = G.laws.times_is d w ∙ ap (times G.ops d) z.gains
-
-        after : value G.ops m ≡ G.ops.plus (value G.ops net₀) r
-        after = ap (λ g. worth G.ops g (flow_in m)) (sym graph_is) ∙ rise_holds G N (flow_of ls) (flow_in m) z.closing.gainful.node round_cycle d z.closing.gainful.closed shifted ∙ ap (G.ops.plus (value G.ops net₀)) (sym (is ∙ rise_is))
-
-        less : (a k : W) → k ≡ G.ops.plus (G.ops.plus a k) (G.ops.neg a)
-        less a k = sym (ap (λ y. G.ops.plus y (G.ops.neg a)) (G.laws.comm a k) ∙ G.laws.assoc k a (G.ops.neg a) ∙ ap (G.ops.plus k) (G.laws.inverse a) ∙ unit_right G k)
+      less : (a k : W) → k ≡ G.ops.plus (G.ops.plus a k) (G.ops.neg a)
+      less a k = sym (ap (λ v. G.ops.plus v (G.ops.neg a)) (G.laws.comm a k) ∙ G.laws.assoc k a (G.ops.neg a) ∙ ap (G.ops.plus k) (G.laws.inverse a) ∙ unit_right G k)

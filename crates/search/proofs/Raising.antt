@@ -1,9 +1,9 @@
 -- Steps relaxed one after another, and sweep after sweep.
-use Rattle.std.proofs.Common.{get_or, ◌≡◌, ℕ, zero, suc, [], ◌∷◌, ◌+◌, ◌*◌, ◌<◌, ◌≤◌, Bool, true, false, ◌||◌, List, length, set, Some, None, Option, sym, refl, ap, ◌∙◌, subst, ap₂, subst₂, ⊎_elim, arith}
-use Rattle.std.proofs.lemmas.Bool.{cases_eq, false≢true, true≢false, cases_lt}
+use Rattle.std.proofs.Common.{get_or, ◌≡◌, ℕ, zero, suc, [], ◌∷◌, ◌+◌, ◌*◌, ◌<◌, ◌≤◌, Bool, true, false, ◌||◌, List, length, set, Some, Option, sym, refl, ap, ◌∙◌, subst, ap₂, subst₂, ⊎_elim, arith}
+use Rattle.std.proofs.lemmas.Bool.{cases_eq, true≢false, cases_lt}
 use Rattle.std.proofs.lemmas.List.{get_or-set_same, get_or-set_other}
 use Rattle.flow.specs.Groups.{Kind, Lt, Le}
-use Rattle.flow.specs.Graphs.{Graph, Sound, Fits}
+use Rattle.flow.specs.Graphs.{Graph, Sound}
 use Rattle.flow.specs.Arcs.{net, flow_of}
 use Rattle.flow.specs.Steps.{arc, Open, step_worth}
 use Rattle.flow.specs.declared.arc.Arc.{Arc}
@@ -13,17 +13,13 @@ use Rattle.flow.proofs.Group.{le_trans, le_right, lt_le, le_lt_trans, le_eq, le_
 use Rattle.flow.proofs.Reach.{reach, sweep_above, fits_from}
 use Rattle.network.specs.Potentials.{potential}
 use Rattle.std.specs.declared.ops.ControlFlow.TheVariants.{Continue}
-use Rattle.search.specs.Links.{SoundArcs, tail_of, head_of, residual_of, Unlinked, Rooted, Told}
-use Rattle.search.specs.Sweeps.{code, Small, offer, Offered, Forest, Closing, Relaxed, Swept, Sweeps, Found}
-use Rattle.search.specs.Searches.{Growing}
+use Rattle.search.specs.Links.{tail_of, head_of, residual_of, Linked, Rooted, Told}
+use Rattle.search.specs.Sweeps.{code, Small, offer, Offered, Forest, Closing, Relaxed, Swept, Sweeps}
+use Rattle.search.specs.Searches.{Same, Growing}
 use Rattle.search.specs.declared.sweep.Search.{Search}
+use Rattle.search.specs.declared.links.Links.{Links}
 use Rattle.worth.specs.Kinds.{Ops}
-use Rattle.search.proofs.Forests.{tail_in, head_in, step_small, bare, forest_linked, forest_rooted, way_short, under, closes, grown}
-
--- a step's number tells the step
-pub code_arc : (s : Step) (m : ℕ) → code s < 2 * m → arc s < m
-code_arc (Forward i) m h = omega arith
-code_arc (Backward i) m h = omega arith
+use Rattle.search.proofs.Forests.{tail_in, head_in, step_small, forest_linked, forest_rooted, way_short, under, closes, grown}
 
 arc_code : (s : Step) (m : ℕ) → arc s < m → code s < 2 * m
 arc_code (Forward i) m h = omega arith
@@ -54,39 +50,43 @@ or_true : (b : Bool) → true ≡ (b || true)
 or_true true = refl
 or_true false = refl
 
+-- one step relaxed
+module _ {W : Type 0} (G : Kind W) {s : Search W} {b : ℕ} (grows : Growing G.ops b s) where
+  abbrev ls : List Arc
+  ls = s.net.arcs.now
+
+  pub linked : Linked ls s.links
+  linked = forest_linked G s.net.nodes ls s.potentials.now s.links grows.forest
+
+  module _ (t : Step) (known : arc t < length ls) where
+    -- from its tail there is a way up
+    pub rooted : Rooted ls s.links (tail_of ls t)
+    rooted = forest_rooted G s.net.nodes ls s.potentials.now s.links grows.forest (tail_of ls t) (tail_in G s.net.nodes ls grows.forest.sound t known)
+
+    module _ {o : W} (offered : Offered G.ops s.net.nodes ls s.potentials.now t (Some o)) where
+      more : Lt G.ops (potential G.ops s.potentials.now (head_of ls t)) (offer G.ops s.net.nodes ls s.potentials.now t)
+      more = subst (Lt G.ops (potential G.ops s.potentials.now (head_of ls t))) offered.1 offered.2
+
+      -- whether its head is on its own way up, as a view of the links tells it
+      module _ (l : Links) (net-is : l.net ≡ s.net) (last-is : l.last.now ≡ s.links) {from to : ℕ} (from-is : from ≡ tail_of ls t) (to-is : to ≡ head_of ls t) {r : Bool} (told : Told l.net.arcs.now l.last.now from to r) where
+        told_here : Told ls s.links (tail_of ls t) (head_of ls t) r
+        told_here = subst₂ (λ v x. Told ls s.links v x r) from-is to-is (subst₂ (λ k js. Told k.arcs.now js from to r) net-is last-is told)
+
+        pub closed : r ≡ true → Closing G.ops s.net.nodes ls s.links t
+        closed e =
+            let q = rooted.0 in
+            let c = closes G s.net.nodes ls s.potentials.now s.links grows.forest t (known, offered.0) more q rooted.1 (λ fresh. true≢false (sym e ∙ (told_here q rooted.1).1 fresh)) in
+            record { linked = linked; known = known; trail = c.trail; climbs = c.climbs; short = let p = c.short in let h = way_short G s.net.nodes ls s.potentials.now s.links grows.forest (tail_of ls t) q (tail_in G s.net.nodes ls grows.forest.sound t known) rooted.1 in omega arith; gainful = c.gainful }
+
+        pub raised : r ≡ false → Relaxed G.ops s.net.nodes ls s.potentials.now s.links (set s.potentials.now to o) (set s.links to (Some t)) t (Continue true)
+        raised e =
+            let xs-set = ap₂ (set s.potentials.now) to-is offered.1 in
+            let ks-set = ap (λ v. set s.links v (Some t)) to-is in
+            (more, xs-set, ks-set, subst₂ (Forest G.ops s.net.nodes ls) (sym xs-set) (sym ks-set) (grown G s.net.nodes ls s.potentials.now s.links grows.forest t (known, offered.0) more rooted.0 rooted.1 ((told_here rooted.0 rooted.1).0 e)))
+
 module _ {W : Type 0} (G : Kind W) (n : ℕ) (ls : List Arc) where
   abbrev N : Graph W
   N = net G.ops n ls
-
-  module _ (xs : List W) (ks : List (Option Step)) (f : Forest G.ops n ls xs ks) (s : Step) (known : arc s < length ls) where
-    -- from its tail there is a way up
-    pub rooted : Rooted ls ks (tail_of ls s)
-    rooted = forest_rooted G n ls xs ks f (tail_of ls s) (tail_in G n ls f.sound s known)
-
-    module _ (o : W) (offered : Offered G.ops n ls xs s (Some o)) where
-      more : Lt G.ops (potential G.ops xs (head_of ls s)) (offer G.ops n ls xs s)
-      more = subst (Lt G.ops (potential G.ops xs (head_of ls s))) offered.1 offered.2
-
-      -- whether its head is on its own way up, as the links' view tells it
-      module _ (ls' : List Arc) (ks' : List (Option Step)) (ls-is : ls' ≡ ls) (ks-is : ks' ≡ ks) (from to : ℕ) (from-is : from ≡ tail_of ls s) (to-is : to ≡ head_of ls s) (b : Bool) (told : Told ls' ks' from to b) where
-        told_here : Told ls ks (tail_of ls s) (head_of ls s) b
-        told_here = subst₂ (λ v x. Told ls ks v x b) from-is to-is (subst₂ (λ rs js. Told rs js from to b) ls-is ks-is told)
-
-        pub closed : b ≡ true → Closing G.ops n ls ks s
-        closed e =
-            let q = rooted.0 in
-            let c = closes G n ls xs ks f s (known, offered.0) more q rooted.1 (λ fresh. true≢false (sym e ∙ (told_here q rooted.1).1 fresh)) in
-            record { linked = forest_linked G n ls xs ks f; known = known; trail = c.trail; climbs = c.climbs; short = let p = c.short in let l = way_short G n ls xs ks f (tail_of ls s) q (tail_in G n ls f.sound s known) rooted.1 in omega arith; gainful = c.gainful }
-
-        pub raised : b ≡ false → Relaxed G.ops n ls xs ks (set xs to o) (set ks to (Some s)) s (Continue true)
-        raised e =
-            let xs-set = ap₂ (set xs) to-is offered.1 in
-            let ks-set = ap (λ v. set ks v (Some s)) to-is in
-            (more, xs-set, ks-set, subst₂ (Forest G.ops n ls) (sym xs-set) (sym ks-set) (grown G n ls xs ks f s (known, offered.0) more rooted.0 rooted.1 ((told_here rooted.0 rooted.1).0 e)))
-
-  -- a sweep, step by step
-  pub swept_none : (xs : List W) (ks : List (Option Step)) → Forest G.ops n ls xs ks → Swept G.ops n ls xs xs ks false 0
-  swept_none xs ks f = record { forest = f; up = λ v l. G.laws.irreflexive (potential G.ops xs v); done = λ s o h. absurd (omega arith); rose = λ e. absurd (false≢true e); same = λ e. refl; sizes = λ b h v. let k = h v in omega arith }
 
   module _ (xs xs₁ xs₂ : List W) (ks₁ ks₂ : List (Option Step)) (moved : Bool) (k : ℕ) (s₀ : Step) (number : code s₀ ≡ k) (w : Swept G.ops n ls xs xs₁ ks₁ moved k) where
     -- what a step offered at first it offers still
@@ -150,14 +150,6 @@ module _ {W : Type 0} (G : Kind W) (n : ℕ) (ls : List Arc) where
     pub early : 0 < n → k < n
     pub sizes : Small G.ops (896 * k) xs
 
-  pub sweeping_none : (xs : List W) (ks : List (Option Step)) → SoundArcs n ls → length xs ≡ n → n ≤ length ks → ((v : ℕ) → potential G.ops xs v ≡ G.ops.none) → Unlinked ks → Sweeping xs ks 0
-  sweeping_none xs ks z e f none unlinked = record {
-    forest = bare G n ls xs ks z e f none unlinked;
-    above = λ v l. le_eq G G.ops.none (potential G.ops xs v) (sym (none v));
-    early = λ p. p;
-    sizes = λ v. omega (arith, ap G.ops.size (none v), G.laws.size_none);
-  }
-
   pub moved_on : (xs xs' : List W) (ks ks' : List (Option Step)) (k : ℕ) → length ls ≤ 448 → Sweeping xs ks k → Swept G.ops n ls xs xs' ks' true (2 * length ls) → Sweeping xs' ks' (k + 1)
   moved_on xs xs' ks ks' k few r w = record {
     forest = w.forest;
@@ -178,24 +170,33 @@ module _ {W : Type 0} (G : Kind W) (n : ℕ) (ls : List Arc) where
           let v = z.0 in
           le_lt_absurd G (potential G.ops xs' v) (potential G.ops xs v) (le_trans G (potential G.ops xs' v) (reach G N (flow_of ls) k v) (potential G.ops xs v) (under G n ls xs' ks' w.forest k v (omega arith) z.1) (r.above v z.1)) z.2
 
-  pub found_still : (xs xs' : List W) (ks ks' : List (Option Step)) (k : ℕ) → k ≤ 272 → Sweeping xs ks k → (xs' ≡ xs) × Fits G.ops N (potential G.ops xs) (flow_of ls) → Found G.ops n ls xs' ks' None
-  found_still xs xs' ks ks' k few r c = subst (λ ys. Found G.ops n ls ys ks' None) (sym c.0) (c.1, λ v. let z = r.sizes v in omega arith)
-
-  -- as many sweeps as there are nodes come only where there is no node
-  pub found_none : (xs : List W) (ks : List (Option Step)) (k : ℕ) → n ≤ k → k ≤ 272 → Sweeping xs ks k → Found G.ops n ls xs ks None
-  found_none xs ks k h few r = ⊎_elim (λ p. absurd (let b = r.early p in omega arith)) (λ z. (λ i l. absurd (let b = (r.forest.sound i l).from_in in omega arith), λ v. let q = r.sizes v in omega arith)) (cases_lt 0 n)
+same_on : {W : Type 0} {s t u : Search W} → Same s t → Same t u → Same s u
+same_on a b = record { net = b.net ∙ a.net; held = b.held ∙ a.held }
 
 -- the search t has come from s by relaxing the steps numbered below k
 pub record SweptTo {W : Type 0} (o : Ops W) (s t : Search W) (moved : Bool) (k : ℕ) : Type 0 where
-  pub net : t.net ≡ s.net
-  pub held : t.potentials.ghost_name ≡ s.potentials.ghost_name
+  pub same : Same s t
   pub swept : Swept o s.net.nodes s.net.arcs.now s.potentials.now t.potentials.now t.links moved k
 
-module _ {W : Type 0} (G : Kind W) (s t : Search W) (moved : Bool) (k : ℕ) (w : SweptTo G.ops s t moved k) where
+module _ {W : Type 0} (G : Kind W) {s t : Search W} {moved : Bool} {k : ℕ} (w : SweptTo G.ops s t moved k) where
   pub may_relax : Growing G.ops 999000 s → k ≤ 1000 → Growing G.ops 1000000 t
-  may_relax r h = record { forest = subst (λ n. Forest G.ops n.nodes n.arcs.now t.potentials.now t.links) (sym w.net) w.swept.forest; small = λ v. let z = w.swept.sizes 999000 r.small v in omega arith }
+  may_relax r h = record { forest = subst (λ n. Forest G.ops n.nodes n.arcs.now t.potentials.now t.links) (sym w.same.net) w.swept.forest; small = λ v. let z = w.swept.sizes 999000 r.small v in omega arith }
 
-  pub swept_on : (u : Search W) → u.net ≡ t.net → u.potentials.ghost_name ≡ t.potentials.ghost_name → (step : Step) → code step ≡ k → arc step < length s.net.arcs.now → (r : Bool) → Relaxed G.ops t.net.nodes t.net.arcs.now t.potentials.now t.links u.potentials.now u.links step (Continue r) → (k' : ℕ) → k' ≡ k + 1 → SweptTo G.ops s u (moved || r) k'
-  swept_on u net held step number known r o k' next =
-      let relaxed = subst (λ n. Relaxed G.ops n.nodes n.arcs.now t.potentials.now t.links u.potentials.now u.links step (Continue r)) w.net o in
-      record { net = net ∙ w.net; held = held ∙ w.held; swept = subst (Swept G.ops s.net.nodes s.net.arcs.now s.potentials.now u.potentials.now u.links (moved || r)) (sym next) (swept_relaxed G s.net.nodes s.net.arcs.now s.potentials.now t.potentials.now u.potentials.now t.links u.links moved k step number w.swept known r relaxed) }
+  pub swept_on : {u : Search W} → Same t u → (step : Step) → code step ≡ k → arc step < length s.net.arcs.now → (r : Bool) → Relaxed G.ops t.net.nodes t.net.arcs.now t.potentials.now t.links u.potentials.now u.links step (Continue r) → {k' : ℕ} → k' ≡ k + 1 → SweptTo G.ops s u (moved || r) k'
+  swept_on {u} same step number known r o next =
+      let relaxed = subst (λ n. Relaxed G.ops n.nodes n.arcs.now t.potentials.now t.links u.potentials.now u.links step (Continue r)) w.same.net o in
+      record { same = same_on w.same same; swept = subst (Swept G.ops s.net.nodes s.net.arcs.now s.potentials.now u.potentials.now u.links (moved || r)) (sym next) (swept_relaxed G s.net.nodes s.net.arcs.now s.potentials.now t.potentials.now u.potentials.now t.links u.links moved k step number w.swept known r relaxed) }
+
+  pub sweep_done : k ≡ 2 * length s.net.arcs.now → Sweeps G.ops s.net.nodes s.net.arcs.now s.potentials.now t.potentials.now t.links (Continue moved)
+  sweep_done all = swept_all G s.net.nodes s.net.arcs.now s.potentials.now t.potentials.now t.links moved k all w.swept
+
+-- the search t has come from s by k sweeps that all raised something
+pub record SearchedTo {W : Type 0} (G : Kind W) (s t : Search W) (k : ℕ) : Type 0 where
+  pub same : Same s t
+  pub sweeping : Sweeping G s.net.nodes s.net.arcs.now t.potentials.now t.links k
+
+pub searched_on : {W : Type 0} (G : Kind W) {s t : Search W} {k : ℕ} → SearchedTo G s t k → {u : Search W} → Same t u → {r : Bool} → r ≡ true → Sweeps G.ops t.net.nodes t.net.arcs.now t.potentials.now u.potentials.now u.links (Continue r) → SearchedTo G s u (k + 1)
+searched_on G {s} {t} {k} w {u} same raised sweeps = record {
+  same = same_on w.same same;
+  sweeping = moved_on G s.net.nodes s.net.arcs.now t.potentials.now u.potentials.now t.links u.links k s.net.sound.few_arcs w.sweeping (subst₂ (λ n b. Sweeps G.ops n.nodes n.arcs.now t.potentials.now u.potentials.now u.links (Continue b)) w.same.net raised sweeps);
+}

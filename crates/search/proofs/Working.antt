@@ -1,26 +1,18 @@
 -- The first entries of a work table, and the rest.
-use Rattle.std.proofs.Common.{◌≡◌, ℕ, ◌-◌, ◌<◌, ◌≤◌, List, ◌++◌, length, get_or, take, drop, replicate, None, Ok, Option, sym, ap, ◌∙◌, subst, subst₂, ⊎_elim, arith, length-append, length-drop, Some}
+use Rattle.std.proofs.Common.{◌≡◌, ℕ, ◌-◌, ◌<◌, ◌≤◌, List, ◌++◌, length, get_or, drop, replicate, None, Ok, Option, sym, ap, ◌∙◌, subst, subst₂, ⊎_elim, arith, length-append, length-drop, Some}
 use lib.ListN.{length-replicate, get_or-replicate}
-use Rattle.std.proofs.lemmas.List.{get_or_append_left, get_or-append_right, get_or-drop, get_or_past, get_or-take, length-take, length-take-le}
+use Rattle.std.proofs.lemmas.List.{get_or_append_left, get_or-append_right, get_or-drop, get_or_past}
 use Rattle.std.proofs.lemmas.Bool.{cases_lt}
 use Rattle.worth.specs.Kinds.{Ops}
 use Rattle.flow.specs.Groups.{Le}
 use Rattle.network.specs.Networks.{Net, Sound, graph}
 use Rattle.flow.specs.declared.step.Step.{Step}
-use Rattle.search.specs.Links.{link, Unlinked}
+use Rattle.search.specs.Links.{link}
 use Rattle.search.specs.Outcomes.{Improving, Beyond}
 use Rattle.network.specs.Potentials.{potential, Fitted}
 
--- the first n entries, as the code takes them
-pub part_long : {X : Type 0} (xs : List X) (n m : ℕ) → n ≡ m → n ≤ length xs → length (take (n - 0) xs) ≡ m
-part_long xs n m e h = length-take-le (n - 0) xs (omega arith) ∙ omega arith
-
 pub none_yet : (n v : ℕ) → link (replicate n None) v ≡ None
 none_yet n v = ⊎_elim (λ l. get_or-replicate n v None None l) (λ l. get_or_past (replicate n None) v None (omega (arith, length-replicate {A = Option Step} n None))) (cases_lt v n)
-
--- a part of the links has no link where the whole has none
-pub part_none : (ks : List (Option Step)) (k v : ℕ) → Unlinked ks → link (take k ks) v ≡ None
-part_none ks k v none = ⊎_elim (λ l. get_or-take k ks v None l ∙ none v) (λ l. get_or_past (take k ks) v None (omega (arith, length-take k ks))) (cases_lt v k)
 
 module _ {W : Type 0} (o : Ops W) where
   module _ (n : Net) (sound : Sound n) (work ys : List W) (k : ℕ) (is : k ≡ n.nodes) (enough : n.nodes ≤ length work) (long : length ys ≡ k) where

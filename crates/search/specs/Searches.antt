@@ -1,18 +1,29 @@
 -- What is known of a search and of a cycle that it has found.
-use Rattle.std.specs.Prelude.{◌≡◌, ℕ, ◌≤◌, length}
+use Rattle.std.specs.Prelude.{◌≡◌, ℕ, ◌≤◌, Bool, List, length, Some, Option}
+use Rattle.std.specs.declared.ops.ControlFlow.{ControlFlow}
 use Rattle.worth.specs.Kinds.{Ops}
 use Rattle.network.specs.Networks.{Net}
 use Rattle.network.specs.Potentials.{potential}
+use Rattle.flow.specs.declared.step.Step.{Step}
 use Rattle.search.specs.declared.residual.Residual.{Residual}
 use Rattle.search.specs.declared.cycle.Cycle.{Cycle}
 use Rattle.search.specs.declared.sweep.Search.{Search}
-use Rattle.search.specs.Links.{Unlinked}
-use Rattle.search.specs.Sweeps.{Small, Forest, Closing}
+use Rattle.search.specs.Links.{Unlinked, head_of, climb}
+use Rattle.search.specs.Sweeps.{Small, Forest, Closing, Offered, Relaxed, Sweeps, Found}
 use Rattle.search.specs.Cycles.{Measured}
 
 -- the network whose arcs were read
 abbrev pub net_of : Residual → Net
 net_of r = record { nodes = r.nodes; arcs = r.arcs.now }
+
+-- the steps of a cycle, against their direction: the closing one, and up the links from its tail to its head
+abbrev pub round : Cycle → List Step
+round c = let ls = c.links.net.arcs.now in let ks = c.links.last.now in climb ls ks (head_of ls c.closing) (Some c.closing) (length ks)
+
+-- both are over one network, and write their potentials into one table
+pub record Same {W : Type 0} (s t : Search W) : Type 0 where
+  pub net : t.net ≡ s.net
+  pub held : t.potentials.ghost_name ≡ s.potentials.ghost_name
 
 module _ {W : Type 0} (o : Ops W) where
   -- nothing is raised yet
@@ -26,6 +37,26 @@ module _ {W : Type 0} (o : Ops W) where
   pub record Growing (b : ℕ) (s : Search W) : Type 0 where
     pub forest : Forest o s.net.nodes s.net.arcs.now s.potentials.now s.links
     pub small : Small o b s.potentials.now
+
+  -- what step t offers in s
+  abbrev pub Offers : Search W → Step → Option W → Type 0
+  Offers s t r = Offered o s.net.nodes s.net.arcs.now s.potentials.now t r
+
+  -- relaxing step t takes s to s'
+  abbrev pub Relaxes : Search W → Search W → Step → ControlFlow Step Bool → Type 0
+  Relaxes s s' t r = Relaxed o s.net.nodes s.net.arcs.now s.potentials.now s.links s'.potentials.now s'.links t r
+
+  -- a sweep takes s to s'
+  abbrev pub SweepsTo : Search W → Search W → ControlFlow Step Bool → Type 0
+  SweepsTo s s' r = Sweeps o s.net.nodes s.net.arcs.now s.potentials.now s'.potentials.now s'.links r
+
+  -- the search ends at s
+  abbrev pub Finds : Search W → Option Step → Type 0
+  Finds s r = Found o s.net.nodes s.net.arcs.now s.potentials.now s.links r
+
+  -- step t closes a cycle worth more than none
+  abbrev pub ClosedBy : Search W → Step → Type 0
+  ClosedBy s t = Closing o s.net.nodes s.net.arcs.now s.links t
 
   -- the cycle is worth more than none
   abbrev pub Closes : Cycle → Type 0

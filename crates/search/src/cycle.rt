@@ -1,7 +1,6 @@
 // A cycle that a search has found, and what it allows and gains.
-ghost use Rattle.std.specs.Prelude.{◌≡◌, ◌<◌, length, Some};
+ghost use Rattle.std.specs.Prelude.{◌≡◌, ◌<◌, length};
 ghost use Rattle.flow.specs.Steps.{arc as arc_of};
-ghost use Rattle.search.specs.Links.{head_of, climb};
 
 use super::links::{Ascent, Links};
 use flow::step::Step;
@@ -17,11 +16,11 @@ pub(crate) struct Cycle<'a> {
 
 impl<'a> Cycle<'a> {
     ghost use Rattle.search.specs.Ascents.{steps_left};
-    ghost use Rattle.search.specs.Searches.{Closes, Measures};
+    ghost use Rattle.search.specs.Searches.{round, Closes, Measures};
 
     // The steps, against their direction: the closing one first.
     pub(crate) fn steps(self) -> Ascent<'a>
-        ensures { steps_left result ≡ climb self.entry.links.net.arcs.now self.entry.links.last.now (head_of self.entry.links.net.arcs.now self.entry.closing) (Some self.entry.closing) (length self.entry.links.last.now) }
+        ensures { steps_left result ≡ round self.entry }
     {
         let goal = self.links.net.head(self.closing);
         self.links.ascent(Some(self.closing), goal)

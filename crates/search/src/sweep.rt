@@ -3,8 +3,7 @@
 ghost use Rattle.std.specs.Prelude.{◌≡◌, ℕ, ◌<◌, [], ◌∷◌, length, slice_index_or};
 ghost use Rattle.flow.specs.Steps.{arc as arc_of};
 ghost use Rattle.search.specs.Links.{Linked, Unlinked};
-ghost use Rattle.search.specs.Sweeps.{Closing, Offered, Relaxed, Sweeps, Found};
-ghost use Rattle.search.specs.Searches.{Begun, Growing, Closes};
+ghost use Rattle.search.specs.Searches.{Same, Begun, Growing, Offers, Relaxes, SweepsTo, Finds, ClosedBy, Closes};
 
 use super::cycle::Cycle;
 use super::links::Links;
@@ -51,7 +50,7 @@ impl<'a, W: Worth> Search<'a, W> {
 
     // The cycle that a step closes.
     pub(crate) fn cycle(&self, closing: Step) -> Cycle<'_>
-        requires { Closing W.ops self.now.net.nodes self.now.net.arcs.now self.now.links closing }
+        requires { ClosedBy W.ops self.now closing }
         ensures net { result.links.net ≡ self.now.net }
         ensures closes { Closes W.ops result }
     {
@@ -65,7 +64,7 @@ impl<'a, W: Worth> Search<'a, W> {
     fn offer(&self, step: Step) -> Option<W>
         requires growing { Growing W.ops 1000000 self.now }
         requires known { arc_of step < length self.now.net.arcs.now }
-        ensures { Offered W.ops self.now.net.nodes self.now.net.arcs.now self.now.potentials.now step result }
+        ensures { Offers W.ops self.now step result }
     {
         let net = self.net;
         if net.room(step) == 0 {
@@ -84,9 +83,8 @@ impl<'a, W: Worth> Search<'a, W> {
     fn relax(&mut self, step: Step) -> ControlFlow<Step, bool>
         requires growing { Growing W.ops 1000000 self.old }
         requires known { arc_of step < length self.old.net.arcs.now }
-        ensures net { self.new.net ≡ self.old.net }
-        ensures held { self.new.potentials.ghost_name ≡ self.old.potentials.ghost_name }
-        ensures relaxed { Relaxed W.ops self.old.net.nodes self.old.net.arcs.now self.old.potentials.now self.old.links self.new.potentials.now self.new.links step result }
+        ensures same { Same self.old self.new }
+        ensures relaxed { Relaxes W.ops self.old self.new step result }
     {
         let Some(offered) = self.offer(step) else {
             return ControlFlow::Continue(false);
@@ -105,9 +103,8 @@ impl<'a, W: Worth> Search<'a, W> {
     // or else a step that closes a cycle worth more than none.
     fn sweep(&mut self) -> ControlFlow<Step, bool>
         requires { Growing W.ops 999000 self.old }
-        ensures net { self.new.net ≡ self.old.net }
-        ensures held { self.new.potentials.ghost_name ≡ self.old.potentials.ghost_name }
-        ensures sweeps { Sweeps W.ops self.old.net.nodes self.old.net.arcs.now self.old.potentials.now self.new.potentials.now self.new.links result }
+        ensures same { Same self.old self.new }
+        ensures sweeps { SweepsTo W.ops self.old self.new result }
     {
         let mut moved = false;
         for i in 0..self.net.arcs.len() {
@@ -122,11 +119,10 @@ impl<'a, W: Worth> Search<'a, W> {
     // As many sweeps as there are nodes suffice, since a way up the links visits no node twice.
     pub(crate) fn find_cycle(&mut self) -> Option<Step>
         requires { Begun W.ops self.old }
-        ensures net { self.new.net ≡ self.old.net }
-        ensures held { self.new.potentials.ghost_name ≡ self.old.potentials.ghost_name }
-        ensures found { Found W.ops self.old.net.nodes self.old.net.arcs.now self.new.potentials.now self.new.links result }
+        ensures same { Same self.old self.new }
+        ensures found { Finds W.ops self.new result }
     {
-        for k in 0..self.net.nodes {
+        for _k in 0..self.net.nodes {
             match self.sweep() {
                 ControlFlow::Continue(false) => return None,
                 ControlFlow::Continue(true) => {}

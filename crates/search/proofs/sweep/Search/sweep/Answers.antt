@@ -1,12 +1,12 @@
-use Rattle.std.proofs.Common.{◌≡◌, ◌+◌, ◌*◌, get_or, arith}
+use Rattle.std.proofs.Common.{◌≡◌, get_or, arith}
 use Rattle.flow.specs.Steps.{arc}
 use Rattle.flow.specs.declared.step.Step.TheVariants.{Forward}
 use Rattle.flow.specs.Groups.{kind}
-use Rattle.search.proofs.Raising.{both_arc, both_code, may_relax, swept_on, swept_all}
+use Rattle.search.proofs.Raising.{both_arc, both_code, may_relax, swept_on, sweep_done}
 use Rattle.search.proofs.sweep.Search.sweep.Goals as goal
 
 pub relax-requires-clause-growing : goal.relax-requires-clause-growing
-relax-requires-clause-growing g c = may_relax (kind g.W.Worth.ops g.met.W.Worth.lawful) c.args.self.now c.loop-step.self c.loop-step.moved (2 * c.loop-i.i + c.loop-step.step-index) c.loop-step.invariant c.requires (let few = c.args.self.now.net.sound.few_arcs in let t = c.loop-i-test.true in let k = c.loop-step-test.true in omega arith)
+relax-requires-clause-growing g c = may_relax (kind g.W.Worth.ops g.met.W.Worth.lawful) c.loop-step.invariant c.requires (let few = c.args.self.now.net.sound.few_arcs in let t = c.loop-i-test.true in let k = c.loop-step-test.true in omega arith)
 
 pub loop-step-preserved : goal.loop-step-preserved
 loop-step-preserved g c =
@@ -16,7 +16,7 @@ loop-step-preserved g c =
     let k = c.loop-step.step-index in
     let step = get_or p k (Forward 0) in
     let arc-is : arc step ≡ i = both_arc p i k (Forward 0) both c.loop-step-test.true in
-    swept_on (kind g.W.Worth.ops g.met.W.Worth.lawful) c.args.self.now c.loop-step.self c.loop-step.moved (2 * i + k) c.loop-step.invariant c.relax.new.self c.relax.ensures.net c.relax.ensures.held step (both_code p i k (Forward 0) both c.loop-step-test.true) (let t = c.loop-i-test.true in omega arith) c.in_ok-moved.field-0 c.in_ok-moved.ensures.relaxed (2 * i + (k + 1)) (omega arith)
+    swept_on (kind g.W.Worth.ops g.met.W.Worth.lawful) c.loop-step.invariant c.relax.ensures.same step (both_code p i k (Forward 0) both c.loop-step-test.true) (let t = c.loop-i-test.true in omega arith) c.in_ok-moved.field-0 c.in_ok-moved.ensures.relaxed (omega arith)
 
 pub returns-clause-sweeps : goal.returns-clause-sweeps
-returns-clause-sweeps g c = let s = c.args.self.now in swept_all (kind g.W.Worth.ops g.met.W.Worth.lawful) s.net.nodes s.net.arcs.now s.potentials.now c.loop-i.self.potentials.now c.loop-i.self.links c.loop-i.moved (2 * c.loop-i.i) (let t = c.loop-i-test.false in let e = c.loop-i.auto.i-end in omega arith) c.loop-i.invariant.swept
+returns-clause-sweeps g c = sweep_done (kind g.W.Worth.ops g.met.W.Worth.lawful) c.loop-i.invariant (let t = c.loop-i-test.false in let e = c.loop-i.auto.i-end in omega arith)

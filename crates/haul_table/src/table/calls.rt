@@ -8,7 +8,6 @@ ghost use Rattle.haul_table.specs.Uses.{Law};
 
 use super::HaulTable;
 use flow::arc::Arc;
-use network::improvable::Improvable;
 use network::valuation::worth;
 use search::clear::clear;
 use search::improve::improve;

@@ -1,4 +1,4 @@
-use Rattle.std.proofs.Common.{◌≡◌, ◌<◌, [], ◌∷◌, ◌++◌, length, sym, ap, subst, refl, arith, w64}
+use Rattle.std.proofs.Common.{◌≡◌, ◌<◌, ◌≤◌, [], ◌∷◌, ◌++◌, length, sym, subst, refl, arith, w64}
 use Rattle.std.proofs.lemmas.Result.{err_from_is_err_and}
 use Rattle.std.proofs.lemmas.Int.{to_z-of_z}
 use Rattle.std.proofs.lemmas.List.{length_push}
@@ -23,12 +23,13 @@ pub invariant_of-self : goal.invariant_of-self
 invariant_of-self g c =
     let before = hauled c.args.self.now in
     let arc = c.new-arc.result in
-    let a = admitted 64 c.len-number.result arc (ap (λ x. x.flow) c.new-arc.ensures) c.in_ok-admit.ensures in
+    let none : arc.flow ≡ 0 = rw c.new-arc.ensures in
+    let a = admitted 64 c.len-number.result arc none c.in_ok-admit.ensures in
     let count = c.len-number.ensures.count in
     let few : length before.arcs < 256 = let b = a.1 in omega arith in
     let e : c.push.new.self ≡ before.arcs ++ (arc ∷ []) = grew 256 before.arcs c.push.new.self _ c.push.result c.push.ensures (omega arith) in
     record {
-      few = omega (arith, ap length e, length_push before.arcs arc);
+      few = subst (λ xs. length xs ≤ 256) (sym e) (omega (arith, length_push before.arcs arc));
       sound = subst (λ xs. Sound (record { nodes = 64; arcs = xs })) (sym e) (more_sound before arc c.args.self.now.sound a.0 (omega arith));
     }
 

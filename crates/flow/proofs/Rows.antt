@@ -9,6 +9,15 @@ use Rattle.flow.specs.declared.arc.Arc.{Arc}
 pub same_arc_refl : (a : Arc) → SameArc a a
 same_arc_refl a = record { from = refl; to = refl; capacity = refl; price = refl; weeks = refl }
 
+pub same_refl : (ls : List Arc) → SameArcs ls ls
+same_refl ls = record { long = refl; each = λ i l. same_arc_refl (arc_at ls i) }
+
+pub same_trans : (ls ms ks : List Arc) → SameArcs ls ms → SameArcs ms ks → SameArcs ls ks
+same_trans ls ms ks p q = record {
+  long = p.long ∙ q.long;
+  each = λ i l. let a = p.each i l in let b = q.each i (subst (λ n. i < n) p.long l) in record { from = a.from ∙ b.from; to = a.to ∙ b.to; capacity = a.capacity ∙ b.capacity; price = a.price ∙ b.price; weeks = a.weeks ∙ b.weeks };
+}
+
 -- past the end both are blank
 pub same_all : (ls ms : List Arc) → SameArcs ls ms → (i : ℕ) → SameArc (arc_at ls i) (arc_at ms i)
 same_all ls ms s i = ⊎_elim (s.each i) past (cases_lt i (length ls))

@@ -102,9 +102,6 @@ stuck_number {s} {t} {z} e none q = none z (subst (λ u. Number u z) (sym e) q)
 kept : (w : List ℕ) (z : ℤ) → Number w z → to_z w64 (of_z w64 z) ≡ z
 kept w z n = to_z-of_z w64 z (subst (SFits w64) (sym n.is) n.fits)
 
-pub number_passed : (w : List ℕ) (z : ℤ) → Number w z → Number w (to_z w64 (of_z w64 z))
-number_passed w z n = subst (Number w) (sym (kept w z n)) n
-
 -- the road of the row that was read is that of each row that is written
 module _ (line : List ℕ) (x : Fields) (w : Written line x) (from to room weeks : ℕ) (f : from ≡ clamped (to_z w64 (of_z w64 x.from))) (t : to ≡ clamped (to_z w64 (of_z w64 x.to))) (r : room ≡ clamped (to_z w64 (of_z w64 x.room))) (k : weeks ≡ clamped (to_z w64 (of_z w64 x.weeks))) where
   arc_is : fresh from to room (to_z w64 (of_z w64 x.price)) weeks ≡ arc_of x

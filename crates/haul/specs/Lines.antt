@@ -4,7 +4,7 @@ use Rattle.std.specs.Int.{w64}
 use Rattle.std.specs.Str.Parse.{IsNumeral, without_leading_sign, signed_digits_value}
 use Rattle.std.specs.Fmt.{signed_decimal}
 use Rattle.tables.specs.declared.refusal.Refusal.{Refusal}
-use Rattle.tables.specs.Refusals.{refusal}
+use Rattle.tables.specs.Refusals.{number, refusal}
 use Rattle.flow.specs.declared.arc.Arc.{Arc}
 use Rattle.network.specs.Networks.{Net}
 use Rattle.flow.specs.Arcs.{fresh}
@@ -57,4 +57,4 @@ spelled (Leg number flow) = codes "leg " ++ (decimal number ++ (codes " " ++ dec
 spelled (Money cents) = codes "money " ++ signed_decimal cents
 spelled (Weeks count) = codes "weeks " ++ signed_decimal count
 spelled (Level node cents count) = codes "level " ++ (decimal node ++ (codes " " ++ (signed_decimal cents ++ (codes " " ++ signed_decimal count))))
-spelled (Refused number line) = codes "refused " ++ (decimal number ++ (codes " " ++ decimal line))
+spelled (Refused e line) = codes "refused " ++ (decimal (number e) ++ (codes " " ++ decimal line))

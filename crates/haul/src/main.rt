@@ -23,11 +23,10 @@ fn print_table(
     table: &HaulTable<MoneyThenWeeks>,
     levels: &[MoneyThenWeeks],
 ) -> io::Result<()> {
-    let (_, arcs) = table.counts();
-    for number in 0..arcs {
-        if let Ok(arc) = table.arc(number) {
-            rt.println(Line::Leg(number, arc.flow))?;
-        }
+    let (_, count) = table.counts();
+    let arcs = (0..count).filter_map(|i| table.arc(i).ok());
+    for (number, arc) in arcs.enumerate() {
+        rt.println(Line::Leg(number, arc.flow))?;
     }
     let worth = table.worth();
     rt.println(Line::Money(worth.first.cents))?;
@@ -40,21 +39,19 @@ fn print_table(
 
 fn main(rt: HostRuntime) -> io::Result<()> {
     let mut table = HaulTable::new();
-    let mut at: u32 = 0;
-    for line in rt.lines(rt.alloc()) {
-        at = at.saturating_add(1);
+    for (at, line) in (1..).zip(rt.lines(rt.alloc())) {
         let added = match line {
             Ok(text) => add_road(&mut table, text.as_str()),
             Err(e) if e.kind() == io::ErrorKind::InvalidData => Err(Refusal::Layout),
             Err(e) => return Err(e),
         };
         if let Err(refusal) = added {
-            return rt.println(Line::Refused(refusal.number(), at));
+            return rt.println(Line::Refused(refusal, at));
         }
     }
     let mut levels = [MoneyThenWeeks::none(); 64];
     match table.clear(&mut levels) {
         Ok(_) => print_table(&rt, &table, &levels),
-        Err(refusal) => rt.println(Line::Refused(refusal.number(), 0)),
+        Err(refusal) => rt.println(Line::Refused(refusal, 0)),
     }
 }

@@ -60,9 +60,7 @@ fn unsigned(number: i64) -> u32
 pub fn add_road<W: Worth>(table: &mut HaulTable<W>, line: &str) -> Result<u32, Refusal>
     ensures { Taken (hauled table.old) (hauled table.new) line.now result }
 {
-    let Some(fields) = read_fields(line) else {
-        return Err(Refusal::Layout);
-    };
+    let fields = read_fields(line).ok_or(Refusal::Layout)?;
     let from = unsigned(fields.from);
     let to = unsigned(fields.to);
     let room = unsigned(fields.room);

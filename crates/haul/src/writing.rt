@@ -2,15 +2,16 @@ ghost use Rattle.std.specs.Prelude.{Some};
 ghost use Rattle.haul.specs.Lines.{spelled};
 
 use std::fmt;
+use tables::refusal::Refusal;
 
 // A line of the output.
 #[derive(Clone, Copy)]
 pub enum Line {
-    Leg(u32, u32),
+    Leg(usize, u32),
     Money(i64),
     Weeks(i64),
     Level(usize, i64, i64),
-    Refused(u32, u32),
+    Refused(Refusal, u32),
 }
 
 impl fmt::Display for Line {
@@ -22,7 +23,7 @@ impl fmt::Display for Line {
             Line::Money(cents) => write!(f, "money {cents}"),
             Line::Weeks(count) => write!(f, "weeks {count}"),
             Line::Level(node, cents, count) => write!(f, "level {node} {cents} {count}"),
-            Line::Refused(number, line) => write!(f, "refused {number} {line}"),
+            Line::Refused(refusal, line) => write!(f, "refused {} {line}", refusal.number()),
         }
     }
 }

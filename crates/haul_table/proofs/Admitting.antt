@@ -1,13 +1,12 @@
--- What is admitted is within the bounds, and what road then does.
-use Rattle.std.proofs.Common.{◌≡◌, ℕ, ◌<◌, length, pos, negsuc, Some, None, Ok, Err, Option, Result, sym, refl, ap, ◌∙◌, subst, subst₂, inl, inr, ⊎_elim, arith}
+-- What is admitted is within the bounds.
+use Rattle.std.proofs.Common.{◌≡◌, ℕ, ◌<◌, pos, negsuc, None, inl, inr, ⊎_elim, arith}
 use Rattle.std.proofs.lemmas.Int.{by_lt_z}
 use Rattle.std.proofs.lemmas.Bool.{cases_lt}
-use Rattle.tables.specs.declared.refusal.Refusal.{Refusal}
-use Rattle.tables.specs.Refusals.{First, number}
+use Rattle.tables.specs.Refusals.{First}
 use Rattle.tables.proofs.Firsts.{not_first, not_rest}
 use Rattle.flow.specs.declared.arc.Arc.{Arc}
-use Rattle.network.specs.Networks.{Net, SoundArc}
-use Rattle.haul_table.specs.Roads.{road_rows, with_arc, Roaded}
+use Rattle.network.specs.Networks.{SoundArc}
+use Rattle.haul_table.specs.Roads.{road_rows}
 
 pub admitted : (nodes count : ℕ) (a : Arc) → a.flow ≡ 0 → First (road_rows nodes count a) None → SoundArc nodes a × (count < 256)
 admitted nodes count a z one =
@@ -25,13 +24,3 @@ admitted nodes count a z one =
       },
       ⊎_elim (λ l. l) (λ g. absurd (not_first two g)) (cases_lt count 256),
     )
-
-module _ (s : Net) (a b : Arc) (count : ℕ) (p : b ≡ a) (q : count ≡ length s.arcs) where
-  rows : (r : Option ℕ) → First (road_rows s.nodes count b) r → First (road_rows s.nodes (length s.arcs) a) r
-  rows r h = subst₂ (λ x n. First (road_rows s.nodes n x) r) p q h
-
-  pub road_made : (t : Net) → First (road_rows s.nodes count b) None → t ≡ with_arc s b → Roaded s t a (Ok count)
-  road_made t h e = record { refused = rows None h; outcome = (q, e ∙ ap (with_arc s) p) }
-
-  pub road_refused : (e f : Refusal) (r : Result ℕ Refusal) → First (road_rows s.nodes count b) (Some (number e)) → r ≡ Err f → f ≡ e → Roaded s s a r
-  road_refused e f r h x y = subst (Roaded s s a) (sym (x ∙ ap Err y)) (record { refused = rows (Some (number e)) h; outcome = refl })

@@ -1,2 +1,4 @@
+pub mod Pushing
+pub mod Growing
 pub mod Admitting
 pub mod Standing

@@ -1,17 +1,16 @@
 -- The law over uses of a haul table, from the outcomes of its calls.
-use Rattle.std.proofs.Common.{◌≡◌, ℕ, suc, ◌+◌, ◌<◌, ◌≤◌, Bool, true, false, eqb, [], ◌∷◌, length, Ok, Err, Result, sym, refl, ap, ◌∙◌, subst, ap₂, ⊎_elim, arith}
-use Rattle.std.proofs.lemmas.List.{length_push, get_or_push, get_or_append_left}
-use Rattle.std.proofs.lemmas.Bool.{cases_lt}
+use Rattle.std.proofs.Common.{◌≡◌, ℕ, suc, ◌+◌, ◌<◌, ◌≤◌, Bool, true, false, eqb, length, Ok, Err, Result, sym, refl, ap, ◌∙◌, subst, ap₂, arith}
 use Rattle.tables.specs.declared.refusal.Refusal.{Refusal}
 use Rattle.worth.specs.Kinds.{Ops, Laws}
 use Rattle.flow.specs.declared.arc.Arc.{Arc}
-use Rattle.flow.specs.Arcs.{arc_at, blank, fresh}
+use Rattle.flow.specs.Arcs.{arc_at, fresh}
 use Rattle.flow.specs.Graphs.{Circulation, sum_n, when, coming, going}
 use Rattle.flow.specs.Groups.{kind, total, times}
 use Rattle.flow.proofs.Group.{unit_right}
 use Rattle.flow.proofs.Sums.{sum_n_same, total_same}
 use Rattle.network.specs.Networks.{Net, SoundArc, flow_in, graph, value}
 use Rattle.search.proofs.Standing.{So, idle_so, improved_so, cleared_so, so_standing}
+use Rattle.haul_table.proofs.Growing.{long, old, new, each_of, more_sound}
 use Rattle.haul_table.proofs.Admitting.{admitted}
 use Rattle.haul_table.specs.Roads.{empty, with_arc, Roaded}
 use Rattle.haul_table.specs.Uses.{Use, made, roaded, improved, cleared, Law}
@@ -25,42 +24,30 @@ flat false k e = refl
 
 -- an arc within its bounds on which nothing flows
 module _ {W : Type 0} {o : Ops W} (laws : Laws o) (n : Net) (a : Arc) (z : a.flow ≡ 0) where
-  long : length (with_arc n a).arcs ≡ length n.arcs + 1
-  long = length_push n.arcs a
-
-  old : (i : ℕ) → i < length n.arcs → arc_at (with_arc n a).arcs i ≡ arc_at n.arcs i
-  old i l = get_or_append_left n.arcs (a ∷ []) blank i l
-
-  new : arc_at (with_arc n a).arcs (length n.arcs) ≡ a
-  new = get_or_push n.arcs a blank (length n.arcs) refl
-
-  each : (P : Arc → Type 0) → ((i : ℕ) → i < length n.arcs → P (arc_at n.arcs i)) → P a → (i : ℕ) → i < length (with_arc n a).arcs → P (arc_at (with_arc n a).arcs i)
-  each P h p i l = ⊎_elim (λ b. subst P (sym (old i b)) (h i b)) (λ b. subst P (sym (ap (arc_at (with_arc n a).arcs) (let q : i ≡ length n.arcs = omega (arith, long) in q) ∙ new)) p) (cases_lt i (length n.arcs))
-
   more_circulation : Circulation (graph o n) (flow_in n) → Circulation (graph o (with_arc n a)) (flow_in (with_arc n a))
   unfolding coming going
   more_circulation c v l = at (λ b. b.to) ∙ c v l ∙ sym (at (λ b. b.from))
     where
       at : (end : Arc → ℕ) → sum_n (length (with_arc n a).arcs) (λ i. when (eqb (end (arc_at (with_arc n a).arcs i)) v) (flow_in (with_arc n a) i)) ≡ sum_n (length n.arcs) (λ i. when (eqb (end (arc_at n.arcs i)) v) (flow_in n i))
-      at end = sum_n_more _ _ (λ i. when (eqb (end (arc_at (with_arc n a).arcs i)) v) (flow_in (with_arc n a) i)) (λ i. when (eqb (end (arc_at n.arcs i)) v) (flow_in n i)) long
-          (λ i h. ap (λ b. when (eqb (end b) v) b.flow) (old i h))
-          (flat (eqb (end (arc_at (with_arc n a).arcs (length n.arcs))) v) (flow_in (with_arc n a) (length n.arcs)) (ap (λ b. b.flow) new ∙ z))
+      at end = sum_n_more _ _ (λ i. when (eqb (end (arc_at (with_arc n a).arcs i)) v) (flow_in (with_arc n a) i)) (λ i. when (eqb (end (arc_at n.arcs i)) v) (flow_in n i)) (long n a)
+          (λ i h. ap (λ b. when (eqb (end b) v) b.flow) (old n a i h))
+          (flat (eqb (end (arc_at (with_arc n a).arcs (length n.arcs))) v) (flow_in (with_arc n a) (length n.arcs)) (ap (λ b. b.flow) (new n a) ∙ z))
 
   more_value : value o (with_arc n a) ≡ value o n
   more_value =
       let f : ℕ → W = λ i. times o (flow_in (with_arc n a) i) ((graph o (with_arc n a)).unit i) in
       let g : ℕ → W = λ i. times o (flow_in n i) ((graph o n).unit i) in
-      let last : f (length n.arcs) ≡ o.none = ap (λ b. times o b.flow (o.unit b.price b.weeks)) new ∙ ap (λ k. times o k (o.unit a.price a.weeks)) z in
-      ap (λ k. total o k f) (let p : length (with_arc n a).arcs ≡ suc (length n.arcs) = omega (arith, long) in p)
-      ∙ ap₂ o.plus (total_same (kind o laws) (length n.arcs) f g (λ i l. ap (λ b. times o b.flow (o.unit b.price b.weeks)) (old i l))) last
+      let last : f (length n.arcs) ≡ o.none = ap (λ b. times o b.flow (o.unit b.price b.weeks)) (new n a) ∙ ap (λ k. times o k (o.unit a.price a.weeks)) z in
+      ap (λ k. total o k f) (let p : length (with_arc n a).arcs ≡ suc (length n.arcs) = omega (arith, long n a) in p)
+      ∙ ap₂ o.plus (total_same (kind o laws) (length n.arcs) f g (λ i l. ap (λ b. times o b.flow (o.unit b.price b.weeks)) (old n a i l))) last
       ∙ unit_right (kind o laws) (value o n)
 
   more_so : {sum : W} → SoundArc n.nodes a → length n.arcs < 448 → So laws n sum → So laws (with_arc n a) sum
   more_so s few h = record {
     stands = record {
-      sound = record { few_nodes = h.stands.sound.few_nodes; few_arcs = omega (arith, long); each = each (SoundArc n.nodes) h.stands.sound.each s };
+      sound = more_sound n a h.stands.sound s few;
       circulation = more_circulation h.stands.circulation;
-      within = each (λ b. b.flow ≤ b.capacity) h.stands.within s.held;
+      within = each_of n a (λ b. b.flow ≤ b.capacity) h.stands.within s.held;
     };
     worth = more_value ∙ h.worth;
   }

@@ -1,5 +1,3 @@
-pub mod Bounds
 pub mod Roads
 pub mod Uses
-pub mod Checked
-pub mod Pushing
+pub mod Settled

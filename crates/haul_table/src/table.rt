@@ -1,5 +1,5 @@
-ghost use Rattle.std.specs.Prelude.{◌≡◌, true};
-ghost use Rattle.haul_table.specs.Bounds.{all_sound};
+ghost use Rattle.std.specs.Prelude.{◌≤◌, length};
+ghost use Rattle.network.specs.Networks.{Sound};
 
 use flow::arc::Arc;
 use std::marker::PhantomData;
@@ -9,9 +9,11 @@ mod as_network;
 mod calls;
 
 // A network of 64 nodes and at most 256 arcs, made for one kind of worth.
+// It has no model: the laws of a network speak of every value of its type, so its bounds stand in the value itself.
 #[derive(Drop)]
 pub struct HaulTable<W> {
     arcs: Table<Arc, 256>,
     kind: PhantomData<W>,
-    ghost sound: { all_sound 64 arcs ≡ true },
+    ghost few: { length arcs ≤ 256 },
+    ghost sound: { Sound (record { nodes = 64; arcs = arcs }) },
 }

@@ -1,7 +1,7 @@
 use flow::arc::Arc;
 
 // What the best circulation is worth in money, in weeks, and in money then weeks.
-#[derive(Clone, Copy)]
+#[derive(Clone, Copy, Default, PartialEq, Eq)]
 pub struct Best {
     pub money: i64,
     pub weeks: i64,
@@ -11,11 +11,10 @@ pub struct Best {
 impl Best {
     // The best of these and of one more circulation.
     fn or(self, (money, weeks): (i64, i64)) -> Best {
-        let more = money > self.both.0 || money == self.both.0 && weeks > self.both.1;
         Best {
             money: self.money.max(money),
             weeks: self.weeks.max(weeks),
-            both: if more { (money, weeks) } else { self.both },
+            both: self.both.max((money, weeks)),
         }
     }
 }
@@ -34,42 +33,40 @@ fn advance(arcs: &mut [Arc]) -> bool {
 
 // Whether as much comes into a node as goes out of it.
 fn balanced(arcs: &[Arc], node: u32) -> bool {
-    let mut net: i64 = 0;
-    for arc in arcs {
-        if arc.to == node {
-            net = net.wrapping_add(i64::from(arc.flow));
-        }
-        if arc.from == node {
-            net = net.wrapping_sub(i64::from(arc.flow));
-        }
-    }
-    net == 0
+    let into = arcs
+        .iter()
+        .filter(|arc| arc.to == node)
+        .map(|arc| u64::from(arc.flow))
+        .fold(0, u64::wrapping_add);
+    let out = arcs
+        .iter()
+        .filter(|arc| arc.from == node)
+        .map(|arc| u64::from(arc.flow))
+        .fold(0, u64::wrapping_add);
+    into == out
 }
 
 // Whether the flows are a circulation of a network of four nodes.
 fn circulates(arcs: &[Arc]) -> bool {
-    balanced(arcs, 0) && balanced(arcs, 1) && balanced(arcs, 2) && balanced(arcs, 3)
+    (0..4).all(|node| balanced(arcs, node))
 }
 
 // The money and the weeks of all flows.
 fn sums(arcs: &[Arc]) -> (i64, i64) {
-    let mut money: i64 = 0;
-    let mut weeks: i64 = 0;
-    for arc in arcs {
-        let flow = i64::from(arc.flow);
-        money = money.wrapping_add(arc.price.wrapping_mul(flow));
-        weeks = weeks.wrapping_add(i64::from(arc.weeks).wrapping_mul(flow));
-    }
+    let money = arcs
+        .iter()
+        .map(|arc| arc.price.wrapping_mul(i64::from(arc.flow)))
+        .fold(0, i64::wrapping_add);
+    let weeks = arcs
+        .iter()
+        .map(|arc| i64::from(arc.weeks).wrapping_mul(i64::from(arc.flow)))
+        .fold(0, i64::wrapping_add);
     (money, weeks)
 }
 
 // The best of all circulations of at most five arcs with capacities up to 2: 3 to the power of 5 rows of flows.
 pub fn best_of(arcs: &mut [Arc]) -> Best {
-    let mut best = Best {
-        money: 0,
-        weeks: 0,
-        both: (0, 0),
-    };
+    let mut best = Best::default();
     for _ in 0..243 {
         if circulates(arcs) {
             best = best.or(sums(arcs));

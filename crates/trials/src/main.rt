@@ -21,7 +21,7 @@ const NETWORKS: u32 = 20_000;
 
 // A haul table with these arcs.
 fn laid<W: Worth>(arcs: &[Arc]) -> Result<HaulTable<W>, Refusal> {
-    let mut table = HaulTable::<W>::new();
+    let mut table = HaulTable::new();
     for arc in arcs {
         table.road(arc.from, arc.to, arc.capacity, arc.price, arc.weeks)?;
     }
@@ -47,13 +47,6 @@ fn cleared_by_each(arcs: &[Arc]) -> Result<Best, Refusal> {
     })
 }
 
-fn agree(found: Best, best: Best) -> bool {
-    found.money == best.money
-        && found.weeks == best.weeks
-        && found.both.0 == best.both.0
-        && found.both.1 == best.both.1
-}
-
 // Whether there is money to gain, and whether clearing finds the best.
 #[derive(Clone, Copy)]
 struct Trial {
@@ -63,13 +56,9 @@ struct Trial {
 
 fn tried(arcs: &mut [Arc]) -> Trial {
     let best = best_of(arcs);
-    let agrees = match cleared_by_each(arcs) {
-        Ok(found) => agree(found, best),
-        Err(_) => false,
-    };
     Trial {
         gains: best.money > 0,
-        agrees,
+        agrees: cleared_by_each(arcs) == Ok(best),
     }
 }
 
@@ -78,8 +67,8 @@ fn main(rt: HostRuntime) -> io::Result<()> {
     let mut gains: u32 = 0;
     let mut disagreements: u32 = 0;
     for _ in 0..NETWORKS {
-        let (mut arcs, count) = random.arcs();
-        let trial = tried(&mut arcs[0..count]);
+        let mut arcs = random.arcs(rt.alloc())?;
+        let trial = tried(&mut arcs);
         if trial.gains {
             gains = gains.saturating_add(1);
         }

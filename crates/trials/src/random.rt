@@ -1,6 +1,7 @@
-ghost use Rattle.std.specs.Prelude.{◌<◌, ◌≤◌};
+ghost use Rattle.std.specs.Prelude.{◌<◌, ◌≤◌, IfOk, vec_len};
 
 use flow::arc::Arc;
+use std::alloc::{AllocError, Global};
 
 // Numbers that look random and are the same in each run.
 #[derive(Clone, Copy)]
@@ -33,25 +34,26 @@ impl Random {
     fn arc(&mut self, nodes: u32) -> Arc
         requires { 0 < nodes }
     {
-        Arc {
-            from: self.below(nodes),
-            to: self.below(nodes),
-            capacity: self.below(3),
-            flow: 0,
-            price: i64::from(self.below(7)) - 3,
-            weeks: self.below(2),
-        }
+        Arc::new(
+            self.below(nodes),
+            self.below(nodes),
+            self.below(3),
+            i64::from(self.below(7)) - 3,
+            self.below(2),
+        )
     }
 
-    // Up to five arcs between up to four nodes, parallel ones and loops among them, and how many they are.
-    pub fn arcs(&mut self) -> ([Arc; 5], usize)
-        ensures { result.1 ≤ 5 }
+    // Up to five arcs between up to four nodes, parallel ones and loops among them.
+    pub fn arcs(&mut self, alloc: Global) -> Result<Vec<Arc>, AllocError>
+        ensures { IfOk result (λ arcs. vec_len arcs ≤ 5) }
     {
         let nodes = self.below(4) + 1;
-        let mut arcs = [self.arc(nodes); 5];
+        // the filler is drawn too, and then each arc
+        let mut arcs = vec![in alloc; self.arc(nodes); 5]?;
         for arc in arcs.iter_mut() {
             *arc = self.arc(nodes);
         }
-        (arcs, self.below(6) as usize)
+        arcs.truncate(self.below(6) as usize);
+        Ok(arcs)
     }
 }

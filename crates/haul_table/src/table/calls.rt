@@ -1,14 +1,13 @@
-ghost use Rattle.std.specs.Prelude.{◌≡◌, ◌<◌, [], length};
+ghost use Rattle.std.specs.Prelude.{◌≡◌};
 ghost use Rattle.tables.specs.Refusals.{First, refusal};
-ghost use Rattle.network.specs.Networks.{SoundArc, value};
+ghost use Rattle.network.specs.Networks.{value};
 ghost use Rattle.search.specs.Outcomes.{Improving, Clearing};
 ghost use Rattle.flow.specs.Arcs.{fresh};
-ghost use Rattle.haul_table.specs.Roads.{hauled, empty, with_arc, road_rows, Roaded, Alike};
+ghost use Rattle.haul_table.specs.Roads.{hauled, empty, road_rows, Roaded, Alike};
 ghost use Rattle.haul_table.specs.Uses.{Law};
 
 use super::HaulTable;
 use flow::arc::Arc;
-use network::improvable::Improvable;
 use network::valuation::worth;
 use search::clear::clear;
 use search::improve::improve;
@@ -16,27 +15,6 @@ use std::marker::PhantomData;
 use tables::refusal::Refusal;
 use tables::table::Table;
 use worth::kind::Worth;
-
-// No arcs, and cells for all that there can be.
-fn no_arcs() -> Table<Arc, 256>
-    ensures { result ≡ [] }
-{
-    Table::new(fresh_arc(0, 0, 0, 0, 0))
-}
-
-// An arc on which nothing flows.
-fn fresh_arc(from: u32, to: u32, capacity: u32, price: i64, weeks: u32) -> Arc
-    ensures { result ≡ fresh from to capacity price weeks }
-{
-    Arc {
-        from,
-        to,
-        capacity,
-        flow: 0,
-        price,
-        weeks,
-    }
-}
 
 // Whether an arc may join `count` others.
 fn admit(arc: Arc, count: usize) -> Result<(), Refusal>
@@ -62,18 +40,9 @@ impl<W: Worth> HaulTable<W> {
         ensures law { Law W.Worth.ops }
     {
         HaulTable {
-            arcs: no_arcs(),
+            arcs: Table::default(),
             kind: PhantomData,
         }
-    }
-
-    // Puts an arc after the others.
-    fn append(&mut self, arc: Arc)
-        requires sound { SoundArc 64 arc }
-        requires few { length self.old.arcs < 256 }
-        ensures { hauled self.new ≡ with_arc (hauled self.old) arc }
-    {
-        let _ = self.arcs.push(arc);
     }
 
     // Adds an arc on which nothing flows, and answers its number.
@@ -88,10 +57,10 @@ impl<W: Worth> HaulTable<W> {
         ensures outcome { Roaded (hauled self.old) (hauled self.new) (fresh from to room price weeks) result }
         ensures law { Law W.Worth.ops }
     {
-        let arc = fresh_arc(from, to, room, price, weeks);
+        let arc = Arc::new(from, to, room, price, weeks);
         let number = self.arcs.len();
         admit(arc, number)?;
-        self.append(arc);
+        self.arcs.push(arc)?;
         Ok(number as u32)
     }
 

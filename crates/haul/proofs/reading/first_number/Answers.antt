@@ -1,6 +1,6 @@
 use Rattle.std.proofs.Common.{Some, None, arith}
 use Rattle.std.proofs.lemmas.Str.Pattern.{split_parts}
-use Rattle.haul.proofs.Words.{none_begins, begins_word, number_passed}
+use Rattle.haul.proofs.Words.{none_begins, begins_word}
 use Rattle.haul.proofs.reading.first_number.Goals as goal
 
 pub returns-in_err-word : goal.returns-in_err-word
@@ -12,10 +12,3 @@ returns-in_err-number c =
     let after = c.in_ok-word.rest in
     let p = split_parts 32 c.args.text.now (Some (word, after)) c.in_ok-word.ensures.cases (omega arith) in
     rw c.from_residual-in_err-number.ensures (λ z rest b. c.in_err-number.ensures z (begins_word c.args.text.now word.now after.now rest z p.0 p.1 b).0)
-
-pub returns : goal.returns
-returns c =
-    let word = c.in_ok-word.word in
-    let after = c.in_ok-word.rest in
-    let p = split_parts 32 c.args.text.now (Some (word, after)) c.in_ok-word.ensures.cases (omega arith) in
-    record { word = word.now; whole = p.0; number = number_passed word.now c.in_ok-number.field-0 c.in_ok-number.ensures }

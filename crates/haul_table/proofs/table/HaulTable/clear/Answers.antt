@@ -1,5 +1,5 @@
 use Rattle.haul_table.proofs.Standing.{law_holds}
 use Rattle.haul_table.proofs.table.HaulTable.clear.Goals as goal
 
-pub returns : goal.returns
-returns g c = record { outcome = c.clear.ensures.outcome; kept = c.clear.ensures.kept; law = law_holds g.met.W.Worth.lawful }
+pub returns-clause-law : goal.returns-clause-law
+returns-clause-law g c = law_holds g.met.W.Worth.lawful

@@ -31,14 +31,3 @@ reading_law = record { spelling = reads_records; apart = one_text; some = some_o
 -- a round has at most 272 nodes
 pub few_nodes : (r : OpenRound) → nodes (book r) ≤ 272
 few_nodes r = ∥∥₁_elim r.sound le_prop (λ s. omega (arith, s.items_few, s.holdings_few, s.offers_few))
-
--- the text from where the reader begins
-pub from_start : (text : List ℕ) (reader : Reader) → Begins text reader → (o : Outcome) → ComesTo heads nothing reader.rest.now reader.line o → ComesTo heads nothing text 1 o
-from_start text reader (t, l) o h = subst (λ k. ComesTo heads nothing text k o) l (subst (λ s. ComesTo heads nothing s reader.line o) t h)
-
--- a text that is too long
-pub too_long : (text : List ℕ) (n : ℕ) → First (when 14 (32768 < length text) ∷ []) (Some n) → Refused text n 0
-too_long text n f = ⊎_elim (λ l. let e = f.0 l in let s : n ≡ 14 = cc in inl (l, s, refl)) (λ l. let e = f.1 (λ h. omega arith) in let z : ◌≡◌ {A = ℕ} 0 1 = cc in absurd (omega arith)) (cases_lt 32768 (length text))
-
-pub not_long : (text : List ℕ) → First (when 14 (32768 < length text) ∷ []) None → length text ≤ 32768
-not_long text f = ⊎_elim (λ l. absurd (not_first f l)) (λ l. l) (cases_lt 32768 (length text))

@@ -56,10 +56,6 @@ Stops due x before f = ComesTo due x before.rest.now before.line (refused (numbe
 abbrev pub LineRead : {X : Type 0} → (s : Slot) → (X → Says s) → Contents → Reader → Reader → Result X Fault → Type 0
 LineRead s said x before after r = MatchResult r (λ v. (due : List Slot) → Onward (s ∷ due) x before (calls_for s (said v) ++ due) (with_line s (said v) x) after) (λ f. (due : List Slot) → Stops (s ∷ due) x before f)
 
--- the heads that are due after the section of the kind
-abbrev pub after_kind : List Slot
-after_kind = head Items ∷ head Members ∷ head Holdings ∷ head Offers ∷ head Levels ∷ []
-
 -- no line is due, and the text reads as these contents; or it is refused since something is left
 abbrev pub Ends : Contents → Reader → Result (Unit {0}) Fault → Type 0
 Ends x reader r = MatchResult r (λ _. ComesTo [] x reader.rest.now reader.line (reads x)) (λ f. Stops [] x reader f)

@@ -1,5 +1,5 @@
 -- Entries of one sort, one after the other, and the section that lists them.
-use Rattle.std.proofs.Common.{◌≡◌, ℕ, suc, ◌+◌, ◌-◌, ◌<◌, ◌≤◌, List, [], ◌∷◌, ◌++◌, length, replicate, IfOk, Ok, Err, codes, Result, sym, refl, ap, ◌∙◌, subst, append_assoc, arith, MatchResult}
+use Rattle.std.proofs.Common.{◌≡◌, ℕ, suc, ◌+◌, ◌-◌, ◌<◌, ◌≤◌, List, [], ◌∷◌, ◌++◌, replicate, IfOk, Ok, Err, codes, Result, sym, refl, ap, ◌∙◌, subst, append_assoc, arith, MatchResult}
 use Rattle.std.proofs.lemmas.List.{length_push, replicate-append-replicate}
 use Rattle.std.proofs.lemmas.Result.{IfOk-at_ok}
 use Rattle.tables.specs.Refusals.{First, refusal}
@@ -13,7 +13,7 @@ use Rattle.text.specs.declared.section.Section.TheVariants.{Items}
 use Rattle.layout.specs.Layout.{Slot, head, item, Says, rules, calls_for, with_line, nothing}
 use Rattle.layout.specs.Records.{Contents}
 use Rattle.layout.specs.Runs.{reads, ComesTo, ends, trails}
-use Rattle.reading.specs.Drafts.{so_far, Read, Halts, Gains, ReadsSection, Begins}
+use Rattle.reading.specs.Drafts.{so_far, Read, Halts, Gains, ReadsSection, ReadsItems}
 use Rattle.reading.specs.Entries.{section_of, slot_of, many, without}
 use Rattle.reading.specs.Kinds.{of_kind}
 use Rattle.reading.specs.Reading.{Onward, Stops, Ends}
@@ -116,7 +116,7 @@ module _ (k : Kind) (n : ℕ) (some : 1 ≤ n) (before middle : Reader) (on : (d
     pub not_begun : (f : Fault) → ((due : List Slot) → Stops (replicate (n - 1) item ++ due) y later f) → (due : List Slot) → Stops (head Items ∷ due) (of_kind k nothing) before f
     not_begun f h due = to_draft due _ (h due)
 
-    pub begun : (d : Draft) → ((due : List Slot) → Onward (replicate (n - 1) item ++ due) y later due (so_far d) d.reader) → without Item (so_far d) ≡ without Item y → Begins before (of_kind k nothing) (Ok d)
+    pub begun : (d : Draft) → ((due : List Slot) → Onward (replicate (n - 1) item ++ due) y later due (so_far d) d.reader) → without Item (so_far d) ≡ without Item y → ReadsItems before (of_kind k nothing) (Ok d)
     begun d g only = (λ due o h. to_draft due o (g due o h), only ∙ ap (without Item) fresh)
 
 -- after the last line

@@ -4,7 +4,7 @@ use Rattle.std.specs.Option.{option_map}
 use Rattle.std.specs.List.{ContainsAt as Has}
 use Rattle.std.proofs.lemmas.List.{length-map, get_or-map}
 use Rattle.std.proofs.lemmas.Bool.{both_ways}
-use Rattle.tables.specs.Refusals.{when, First, number, refusal}
+use Rattle.tables.specs.Refusals.{when, First, number}
 use Rattle.tables.specs.declared.refusal.Refusal.{Refusal}
 use Rattle.tables.specs.declared.refusal.Refusal.TheVariants.{Double}
 use Rattle.tables.proofs.Firsts.{here, next, not_first, not_rest}

@@ -109,11 +109,11 @@ module _ {x : Contents} {units : List ℕ} {h : OfferHead} {items : ℕ} {before
         onward = λ due o r. to_gets due o (w.onward (get_lines g.said) x (head_said h) due (b.known, g.lines_are ∙ sym same) o r);
         holds = (λ i. record { items = x.items; members = x.members; holdings = x.holdings; offers = same_offers i }) ∙ sym (add fair_offer (omega (arith, b.few, length-map x.offers offer_of)) room);
         row =
-          units_push x.offers this
-          ∙ (λ i. (b.row i ++ gives i) ++ map units_of w.said)
-          ∙ append_assoc units units' (map units_of w.said)
-          ∙ ap (λ us. units ++ us) w.units_are
-          ∙ sym er;
+            units_push x.offers this
+            ∙ (λ i. (b.row i ++ gives i) ++ map units_of w.said)
+            ∙ append_assoc units units' (map units_of w.said)
+            ∙ ap (λ us. units ++ us) w.units_are
+            ∙ sym er;
       }
         where
           gives : map units_of g.said ≡ units'

@@ -1,5 +1,5 @@
 -- Lines that are rows of n numbers, tested against the rules of their sort.
-use Rattle.std.proofs.Common.{◌≡◌, ℕ, ◌<◌, List, [], ◌∷◌, ◌++◌, length, get_or, IfOk, None, Ok, Err, Result, sym, refl, ap, ◌∙◌, subst, inr, arith}
+use Rattle.std.proofs.Common.{◌≡◌, ℕ, ◌<◌, List, [], ◌∷◌, length, get_or, IfOk, None, Ok, Err, Result, sym, refl, ap, ◌∙◌, subst, inr, arith}
 use Rattle.tables.specs.Refusals.{First, refusal}
 use Rattle.tables.specs.declared.refusal.Refusal.{Refusal}
 use Rattle.text.specs.Faults.{result_at}
@@ -8,7 +8,7 @@ use Rattle.text.specs.Readers.{Advanced}
 use Rattle.text.specs.Rows.{row_spelt, SpellsRow}
 use Rattle.text.specs.declared.fault.Fault.{Fault}
 use Rattle.text.specs.declared.reader.Reader.{Reader}
-use Rattle.layout.specs.Layout.{Slot, offer, give, get, Says, offer_row, line_row, spell, Fits, Short, rules, calls_for, with_line}
+use Rattle.layout.specs.Layout.{Slot, offer, give, get, Says, offer_row, line_row, spell, Fits, Short, rules}
 use Rattle.layout.specs.Records.{Contents}
 use Rattle.reading.specs.Offers.{as_head, as_line}
 use Rattle.reading.specs.Reading.{Missing, Stops, LineRead}

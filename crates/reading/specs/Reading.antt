@@ -15,8 +15,7 @@ use Rattle.text.specs.declared.line.Line.TheVariants.{Row as IsRow}
 use Rattle.text.specs.declared.reader.Reader.{Reader}
 use Rattle.text.specs.declared.row.Row.{Row}
 use Rattle.text.specs.declared.section.Section.{Section}
-use Rattle.text.specs.declared.section.Section.TheVariants.{Items, Members, Holdings, Offers, Levels}
-use Rattle.layout.specs.Layout.{Slot, head, Says, calls_for, with_line}
+use Rattle.layout.specs.Layout.{Slot, Says, calls_for, with_line}
 use Rattle.layout.specs.Records.{Contents}
 use Rattle.reading.specs.declared.next.Numbered.{Numbered}
 use Rattle.layout.specs.Runs.{Outcome, reads, refused, ComesTo}

@@ -21,6 +21,7 @@ use Rattle.reading.specs.declared.draft.Draft.{Draft}
 use Rattle.reading.specs.declared.entry.Entry.{Entry}
 use Rattle.reading.specs.declared.entry.Entry.TheVariants.{Item, Member, Holding, Offer, Level}
 use Rattle.reading.specs.declared.kind.Kind.{Kind}
+use Rattle.reading.proofs.Dues.{one_due, all_due}
 use Rattle.reading.proofs.Steps.{Lies, sound, faulty}
 
 -- n entries were read
@@ -69,22 +70,17 @@ told e a b Is c bare adv lies line n r first held (Err f) q = refused e a Is c a
 
 -- an entry after others
 pub again : (e : Entry) (k : ℕ) (a b d : Draft) → Gained e k a b → Gained e 1 b d → Gained e (k + 1) a d
-again e k a b d (f, m) (g, n) =
-    let s = slot_of e in (
-      record {
-        onward = λ due. subst (λ l. Onward l (so_far a) a.reader due (so_far d) d.reader) (sym (append_assoc (replicate k s) (s ∷ []) due) ∙ ap (λ l. l ++ due) (replicate-append-replicate k 1 s)) (λ o h. f.onward (s ∷ due) o (g.onward due o h));
-        only = g.only ∙ f.only;
-      },
-      omega arith,
-    )
+again e k a b d (f, m) (g, n) = (
+  record {
+    onward = λ due. subst (λ l. Onward l (so_far a) a.reader due (so_far d) d.reader) (one_due k (slot_of e) due) (λ o h. f.onward (slot_of e ∷ due) o (g.onward due o h));
+    only = g.only ∙ f.only;
+  },
+  omega arith,
+)
 
 -- the text is refused in the next
 pub halted : (e : Entry) (n k : ℕ) (a b : Draft) (f : Fault) → Gained e k a b → k < n → Halts (slot_of e ∷ []) b f → Halts (replicate n (slot_of e)) a f
-halted e n k a b f (r, _) lt h due =
-    let s = slot_of e in
-    let m = n - (k + 1) in
-    let all : k + suc m ≡ n = omega arith in
-    subst (λ l. Stops l (so_far a) a.reader f) (sym (append_assoc (replicate k s) (replicate (suc m) s) due) ∙ ap (λ l. l ++ due) (replicate-append-replicate k (suc m) s) ∙ ap (λ j. replicate j s ++ due) all) (r.onward (replicate (suc m) s ++ due) _ (h (replicate m s ++ due)))
+halted e n k a b f (r, _) lt h due = subst (λ l. Stops l (so_far a) a.reader f) (all_due n k lt (slot_of e) due) (r.onward _ _ (h (replicate (n - (k + 1)) (slot_of e) ++ due)))
 
 -- the head of a section calls for its entries, and holds nothing itself
 pub headed : (e : Entry) (n : ℕ) (x : Contents) (before after : Reader) → ((due : List Slot) → Onward (head (section_of e) ∷ due) x before (calls_for (head (section_of e)) n ++ due) (with_line (head (section_of e)) n x) after) → (due : List Slot) → Onward (head (section_of e) ∷ due) x before (replicate n (slot_of e) ++ due) x after

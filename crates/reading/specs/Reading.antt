@@ -17,8 +17,8 @@ use Rattle.text.specs.declared.row.Row.{Row}
 use Rattle.text.specs.declared.section.Section.{Section}
 use Rattle.layout.specs.Layout.{Slot, Says, calls_for, with_line}
 use Rattle.layout.specs.Records.{Contents}
-use Rattle.reading.specs.declared.next.Numbered.{Numbered}
 use Rattle.layout.specs.Runs.{Outcome, reads, refused, ComesTo}
+use Rattle.reading.specs.declared.next.Numbered.{Numbered}
 
 -- the text has no ended line next that is an x: it departs from the layout there
 pub record Missing {X : Type 0} (Is : List ℕ → X → Type 0) (before : Reader) (f : Fault) : Type 0 where

@@ -77,7 +77,7 @@ impl Side<'_> {
         units: &mut Table<u32, 256>,
     ) -> Result<Table<Line, 256>, Fault>
         requires { length (entries units.old) + n ≤ 256 }
-        ensures { MatchResult result (λ lines. LinesRead self.entry.items self.entry.give.now n 0 (entries lines) (entries units.old) (entries units.new) reader.old reader.new) (λ f. LinesStop self.entry.items self.entry.give.now n reader.old f) }
+        ensures { MatchResult result (λ lines. LinesRead self.entry.items self.entry.give.now n (entries lines) (entries units.old) (entries units.new) reader.old reader.new) (λ f. LinesStop self.entry.items self.entry.give.now n reader.old f) }
     {
         let mut lines = Table::new(Line {
             item: 0,

@@ -1,7 +1,6 @@
-use Rattle.std.proofs.Common.{◌≡◌, ℕ, ◌+◌}
 use Rattle.tables.specs.Tables.{entries}
 use Rattle.reading.specs.Offers.{LinesRead}
 use Rattle.reading.proofs.side.Side.next_lines.Given as goal
 
 abbrev pub invariant-loop : goal.invariant-loop
-invariant-loop l = (m : ℕ) → l.counter + m ≡ l.n → LinesRead l.self.items l.self.give.now l.n m (entries l.lines) (entries l.initial.units) (entries l.units) l.initial.reader l.reader
+invariant-loop l = LinesRead l.self.items l.self.give.now l.counter (entries l.lines) (entries l.initial.units) (entries l.units) l.initial.reader l.reader

@@ -31,7 +31,7 @@ module _ (e : Entry) (nodes n : ℕ) where
       subst (λ k. Lies (head s) x (IsHead s) n k × First (rules (head s) x k) None) (sym h.0) (record { spells = λ bytes i. i.0; fits = (h.1, (short, tt)) }, h.2)
   count_judged x q short (Err d) t =
       elim (t.outcome x q) [
-        inl (p, not) ↦ inl (p, no_count (section_of e) x n not)
+        | inl (p, not) ↦ inl (p, no_count (section_of e) x n not)
         | inr (counts, some) ↦ inr (n, record { spells = λ bytes i. i.0; fits = (counts, (short, tt)) }, some)
       ]
 

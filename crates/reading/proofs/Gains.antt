@@ -1,6 +1,6 @@
 -- Entries of one sort, one after the other, and the section that lists them.
-use Rattle.std.proofs.Common.{◌≡◌, ℕ, suc, ◌+◌, ◌-◌, ◌<◌, ◌≤◌, List, [], ◌∷◌, ◌++◌, length, replicate, IfOk, Ok, Err, codes, Result, sym, refl, ap, ◌∙◌, subst, append_assoc, arith, MatchResult}
-use Rattle.std.proofs.lemmas.List.{length_push, replicate-append-replicate}
+use Rattle.std.proofs.Common.{◌≡◌, ℕ, suc, ◌+◌, ◌-◌, ◌<◌, ◌≤◌, List, [], ◌∷◌, ◌++◌, replicate, IfOk, Ok, Err, codes, Result, sym, refl, ap, ◌∙◌, subst, arith, MatchResult}
+use Rattle.std.proofs.lemmas.List.{length_push}
 use Rattle.std.proofs.lemmas.Result.{IfOk-at_ok}
 use Rattle.tables.specs.Refusals.{First, refusal}
 use Rattle.tables.specs.declared.refusal.Refusal.{Refusal}
@@ -8,12 +8,12 @@ use Rattle.text.specs.Faults.{result_at}
 use Rattle.text.specs.Readers.{Advanced, Ended}
 use Rattle.text.specs.declared.fault.Fault.{Fault}
 use Rattle.text.specs.declared.reader.Reader.{Reader}
-use Rattle.text.proofs.Faults.{ok_from_at, err_from_at}
 use Rattle.text.specs.declared.section.Section.TheVariants.{Items}
+use Rattle.text.proofs.Faults.{ok_from_at}
 use Rattle.layout.specs.Layout.{Slot, head, item, Says, rules, calls_for, with_line, nothing}
 use Rattle.layout.specs.Records.{Contents}
 use Rattle.layout.specs.Runs.{reads, ComesTo, ends, trails}
-use Rattle.reading.specs.Drafts.{so_far, Read, Halts, Gains, ReadsSection, Begins}
+use Rattle.reading.specs.Drafts.{so_far, Read, Halts, Gains, ReadsSection, ReadsItems}
 use Rattle.reading.specs.Entries.{section_of, slot_of, many, without}
 use Rattle.reading.specs.Kinds.{of_kind}
 use Rattle.reading.specs.Reading.{Onward, Stops, Ends}
@@ -21,7 +21,8 @@ use Rattle.reading.specs.declared.draft.Draft.{Draft}
 use Rattle.reading.specs.declared.entry.Entry.{Entry}
 use Rattle.reading.specs.declared.entry.Entry.TheVariants.{Item, Member, Holding, Offer, Level}
 use Rattle.reading.specs.declared.kind.Kind.{Kind}
-use Rattle.reading.proofs.Steps.{Lies, sound, faulty}
+use Rattle.reading.proofs.Dues.{one_due, all_due}
+use Rattle.reading.proofs.Steps.{Lies, ruled}
 
 -- n entries were read
 abbrev pub Gained : Entry → ℕ → Draft → Draft → Type 0
@@ -48,43 +49,36 @@ entered Holding c x = (refl, omega (arith, length_push x.holdings c))
 entered Offer c x = (refl, omega (arith, length_push x.offers (record { member = c.member; limit = c.limit; give = []; get = [] })))
 entered Level c x = (refl, omega (arith, length_push x.levels c))
 
--- an entry of one line, where a call that was made with what the line says was accepted
-pub accepted : (e : Entry) (a b : Draft) {V Y : Type 0} (Is : List ℕ → V → Type 0) {v : V} (c : Says (slot_of e)) → calls_for (slot_of e) c ≡ [] → Advanced Is a.reader b.reader v → Lies (slot_of e) (so_far a) Is v c → (line : ℕ) (r : Result Y Refusal) → First (rules (slot_of e) (so_far a) c) (refusal r) → IfOk r (λ _. with_line (slot_of e) c (so_far a) ≡ so_far b) → (y : Y) → Ok y ≡ result_at line r → Gained e 1 a b
-accepted e a b Is c bare adv lies line r first held y q =
-    let x = so_far a in
-    let done = ok_from_at line r y q in
-    let none = subst (λ w. First (rules (slot_of e) x c) (refusal w)) done first in
-    one_more e a b (with_line (slot_of e) c x) (λ due. subst (λ l. Onward (slot_of e ∷ due) x a.reader (l ++ due) (with_line (slot_of e) c x) b.reader) bare (sound (slot_of e) x Is c adv lies.spells lies.fits none due)) (IfOk-at_ok (λ _. with_line (slot_of e) c x ≡ so_far b) done held) (entered e c x).0 (entered e c x).1
+said_so : {X Y : Type 0} (c : X) (r : Result Y Refusal) → IfOk r (λ _. c ≡ c)
+said_so c (Ok y) = refl
+said_so c (Err d) = tt
 
--- where it was refused, the text is
+-- the text is refused where a call is that was made with what a line says
 pub refused : (e : Entry) (a : Draft) {V Y : Type 0} (Is : List ℕ → V → Type 0) {after : Reader} {v : V} (c : Says (slot_of e)) → Advanced Is a.reader after v → Lies (slot_of e) (so_far a) Is v c → (line : ℕ) → line ≡ a.reader.line → (r : Result Y Refusal) → First (rules (slot_of e) (so_far a) c) (refusal r) → (f : Fault) → Err f ≡ result_at line r → Halts (slot_of e ∷ []) a f
-refused e a Is c adv lies line n r first f q due =
-    let d = err_from_at line r f q in
-    subst (λ g. Stops (slot_of e ∷ due) (so_far a) a.reader g) (sym d.1) (faulty (slot_of e) (so_far a) Is c adv lies.spells lies.fits line n f.refusal (subst (λ w. First (rules (slot_of e) (so_far a) c) (refusal w)) d.0 first) due)
+refused e a {Y = Y} Is c adv lies line n r first f q = ruled (slot_of e) (so_far a) Is (λ (_ : Y). c) adv c lies line n r first (said_so c r) (Err f) q
 
--- what its outcome is, with the line's number beside the refusal
-pub told : (e : Entry) (a b : Draft) {V Y : Type 0} (Is : List ℕ → V → Type 0) {v : V} (c : Says (slot_of e)) → calls_for (slot_of e) c ≡ [] → Advanced Is a.reader b.reader v → Lies (slot_of e) (so_far a) Is v c → (line : ℕ) → line ≡ a.reader.line → (r : Result Y Refusal) → First (rules (slot_of e) (so_far a) c) (refusal r) → IfOk r (λ _. with_line (slot_of e) c (so_far a) ≡ so_far b) → (o : Result Y Fault) → o ≡ result_at line r → MatchResult o (λ _. Gained e 1 a b) (λ f. Halts (slot_of e ∷ []) a f)
-told e a b Is c bare adv lies line n r first held (Ok y) q = accepted e a b Is c bare adv lies line r first held y q
-told e a b Is c bare adv lies line n r first held (Err f) q = refused e a Is c adv lies line n r first f q
+-- an entry of one line, where a call was made with what the line says: it was accepted, or refused and the text with it
+module _ (e : Entry) (a b : Draft) {V : Type 0} (Is : List ℕ → V → Type 0) {v : V} (c : Says (slot_of e)) (bare : calls_for (slot_of e) c ≡ []) (adv : Advanced Is a.reader b.reader v) (lies : Lies (slot_of e) (so_far a) Is v c) where
+  pub told : {Y : Type 0} (line : ℕ) → line ≡ a.reader.line → (r : Result Y Refusal) → First (rules (slot_of e) (so_far a) c) (refusal r) → IfOk r (λ _. with_line (slot_of e) c (so_far a) ≡ so_far b) → (o : Result Y Fault) → o ≡ result_at line r → MatchResult o (λ _. Gained e 1 a b) (λ f. Halts (slot_of e ∷ []) a f)
+  told {Y} line n r first held (Ok y) q =
+      let x = so_far a in
+      let on = ruled (slot_of e) x Is (λ (_ : Y). c) adv c lies line n r first (said_so c r) (Ok y) q in
+      one_more e a b (with_line (slot_of e) c x) (λ due. subst (λ l. Onward (slot_of e ∷ due) x a.reader (l ++ due) (with_line (slot_of e) c x) b.reader) bare (on due)) (IfOk-at_ok (λ _. with_line (slot_of e) c x ≡ so_far b) (ok_from_at line r y q) held) (entered e c x).0 (entered e c x).1
+  told {Y} line n r first held (Err f) q = refused e a Is c adv lies line n r first f q
 
 -- an entry after others
 pub again : (e : Entry) (k : ℕ) (a b d : Draft) → Gained e k a b → Gained e 1 b d → Gained e (k + 1) a d
-again e k a b d (f, m) (g, n) =
-    let s = slot_of e in (
-      record {
-        onward = λ due. subst (λ l. Onward l (so_far a) a.reader due (so_far d) d.reader) (sym (append_assoc (replicate k s) (s ∷ []) due) ∙ ap (λ l. l ++ due) (replicate-append-replicate k 1 s)) (λ o h. f.onward (s ∷ due) o (g.onward due o h));
-        only = g.only ∙ f.only;
-      },
-      omega arith,
-    )
+again e k a b d (f, m) (g, n) = (
+  record {
+    onward = λ due. subst (λ l. Onward l (so_far a) a.reader due (so_far d) d.reader) (one_due k (slot_of e) due) (λ o h. f.onward (slot_of e ∷ due) o (g.onward due o h));
+    only = g.only ∙ f.only;
+  },
+  omega arith,
+)
 
 -- the text is refused in the next
 pub halted : (e : Entry) (n k : ℕ) (a b : Draft) (f : Fault) → Gained e k a b → k < n → Halts (slot_of e ∷ []) b f → Halts (replicate n (slot_of e)) a f
-halted e n k a b f (r, _) lt h due =
-    let s = slot_of e in
-    let m = n - (k + 1) in
-    let all : k + suc m ≡ n = omega arith in
-    subst (λ l. Stops l (so_far a) a.reader f) (sym (append_assoc (replicate k s) (replicate (suc m) s) due) ∙ ap (λ l. l ++ due) (replicate-append-replicate k (suc m) s) ∙ ap (λ j. replicate j s ++ due) all) (r.onward (replicate (suc m) s ++ due) _ (h (replicate m s ++ due)))
+halted e n k a b f (r, _) lt h due = subst (λ l. Stops l (so_far a) a.reader f) (all_due n k lt (slot_of e) due) (r.onward _ _ (h (replicate (n - (k + 1)) (slot_of e) ++ due)))
 
 -- the head of a section calls for its entries, and holds nothing itself
 pub headed : (e : Entry) (n : ℕ) (x : Contents) (before after : Reader) → ((due : List Slot) → Onward (head (section_of e) ∷ due) x before (calls_for (head (section_of e)) n ++ due) (with_line (head (section_of e)) n x) after) → (due : List Slot) → Onward (head (section_of e) ∷ due) x before (replicate n (slot_of e) ++ due) x after
@@ -116,7 +110,7 @@ module _ (k : Kind) (n : ℕ) (some : 1 ≤ n) (before middle : Reader) (on : (d
     pub not_begun : (f : Fault) → ((due : List Slot) → Stops (replicate (n - 1) item ++ due) y later f) → (due : List Slot) → Stops (head Items ∷ due) (of_kind k nothing) before f
     not_begun f h due = to_draft due _ (h due)
 
-    pub begun : (d : Draft) → ((due : List Slot) → Onward (replicate (n - 1) item ++ due) y later due (so_far d) d.reader) → without Item (so_far d) ≡ without Item y → Begins before (of_kind k nothing) (Ok d)
+    pub begun : (d : Draft) → ((due : List Slot) → Onward (replicate (n - 1) item ++ due) y later due (so_far d) d.reader) → without Item (so_far d) ≡ without Item y → ReadsItems before (of_kind k nothing) (Ok d)
     begun d g only = (λ due o h. to_draft due o (g due o h), only ∙ ap (without Item) fresh)
 
 -- after the last line

@@ -4,7 +4,7 @@ use Rattle.std.specs.Option.{option_map}
 use Rattle.std.specs.List.{ContainsAt as Has}
 use Rattle.std.proofs.lemmas.List.{length-map, get_or-map}
 use Rattle.std.proofs.lemmas.Bool.{both_ways}
-use Rattle.tables.specs.Refusals.{when, First, refusal}
+use Rattle.tables.specs.Refusals.{when, First, number}
 use Rattle.tables.specs.declared.refusal.Refusal.{Refusal}
 use Rattle.tables.specs.declared.refusal.Refusal.TheVariants.{Double}
 use Rattle.tables.proofs.Firsts.{here, next, not_first, not_rest}
@@ -41,6 +41,10 @@ spot_has hs m i k e =
     (k, omega (arith, length-map hs pair, s.0), λ d. get_or-map pair hs k no_holding d s.0 ∙ s.1 no_holding)
 
 -- What a new holding breaks
+
+-- there is no such member or item
+pub strange : (b : Book) (h : Holding) (d : Refusal) → First (when 1 (Strange b h.member h.item) ∷ []) (Some (number d)) → HoldsFirst b b h (Err d)
+strange b h d f = record { refused = (f.0, λ known. let none = f.1 known in absurd cc); outcome = refl }
 
 module _ (b : Book) (h : Holding) (o : Option ℕ) (few : h.units ≤ 1000) (a : AnswersHolding b h.member h.item (Ok o)) where
   -- the pair has an entry

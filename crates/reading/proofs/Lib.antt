@@ -2,6 +2,7 @@ pub mod Nexts
 pub mod Steps
 pub mod Named
 pub mod Counted
+pub mod Dues
 pub mod Gains
 pub mod Worded
 pub mod Helds

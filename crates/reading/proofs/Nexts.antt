@@ -1,5 +1,5 @@
 -- The next line of a text, read as a head, a name or a row of numbers.
-use Rattle.std.proofs.Common.{◌≡◌, ℕ, cond, eqb, List, ◌∷◌, Ok, Err, Result, sym, refl, ap, ◌∙◌, subst, arith, Bor}
+use Rattle.std.proofs.Common.{◌≡◌, ℕ, cond, eqb, List, ◌∷◌, Ok, Err, Result, sym, refl, ap, ◌∙◌, subst, Bor}
 use Rattle.std.proofs.lemmas.Result.{MatchResult-at_ok}
 use Rattle.tables.specs.declared.refusal.Refusal.{Refusal}
 use Rattle.tables.specs.declared.refusal.Refusal.TheVariants.{Layout}
@@ -63,8 +63,8 @@ head_from s (line.Head t m) bytes p n i =
     let e : letter t ∷ 32 ∷ spelt m ≡ letter s ∷ 32 ∷ spelt n = sym p.bytes_are ∙ i.0 in
     let h : letter t ≡ letter s = cc in
     (m, ap (λ u. line.Head u m) (letter_once t s h))
-head_from s (line.Name x) bytes p n i = let z : ◌≡◌ {A = ℕ} 0 1 = cc p.sorted in absurd (omega arith)
-head_from s (line.Row x) bytes p n i = let z : ◌≡◌ {A = ℕ} 0 1 = cc p.sorted in absurd (omega arith)
+head_from s (line.Name x) bytes p n i = absurd (cc p.sorted)
+head_from s (line.Row x) bytes p n i = absurd (cc p.sorted)
 
 pub head_line : (s : Section) (bytes : List ℕ) (n : ℕ) → IsHead s bytes n → (l : Line) × Says sort.Head bytes l
 head_line s bytes n i = (line.Head s n, record { sorted = refl; bytes_are = i.0; short = i.1 })
@@ -75,9 +75,9 @@ pub name_to : (l : Line) (bytes : List ℕ) → Says sort.Name bytes l → (x : 
 name_to l bytes p x e = let q = subst (λ m. Says sort.Name bytes m) e p in sym q.bytes_are
 
 pub name_from : (l : Line) (bytes : List ℕ) → Says sort.Name bytes l → (x : Bor (List ℕ)) → x.now ≡ bytes → (y : Bor (List ℕ)) × (l ≡ line.Name y)
-name_from (line.Head s m) bytes p x i = let z : ◌≡◌ {A = ℕ} 0 1 = cc p.sorted in absurd (omega arith)
+name_from (line.Head s m) bytes p x i = absurd (cc p.sorted)
 name_from (line.Name y) bytes p x i = (y, refl)
-name_from (line.Row y) bytes p x i = let z : ◌≡◌ {A = ℕ} 0 1 = cc p.sorted in absurd (omega arith)
+name_from (line.Row y) bytes p x i = absurd (cc p.sorted)
 
 pub name_line : (bytes : List ℕ) (x : Bor (List ℕ)) → x.now ≡ bytes → (l : Line) × Says sort.Name bytes l
 name_line bytes x e = (line.Name x, record { sorted = refl; bytes_are = sym e; short = tt })
@@ -91,8 +91,8 @@ pub row_to : {X : Type 0} (notation : Notation X) (n : ℕ) (l : Line) (bytes : 
 row_to notation n l bytes p xs r = let q = subst (λ m. Says sort.Row bytes m) r.is p in subst (λ bs. SpellsRow notation n bs xs) (sym q.bytes_are) r.spells
 
 pub row_from : {X : Type 0} (notation : Notation X) (n : ℕ) (l : Line) (bytes : List ℕ) → Says sort.Row bytes l → (xs : List X) → SpellsRow notation n bytes xs → (ys : List X) × RowOf notation n l ys
-row_from notation n (line.Head s m) bytes p xs i = let z : ◌≡◌ {A = ℕ} 0 1 = cc p.sorted in absurd (omega arith)
-row_from notation n (line.Name x) bytes p xs i = let z : ◌≡◌ {A = ℕ} 0 1 = cc p.sorted in absurd (omega arith)
+row_from notation n (line.Head s m) bytes p xs i = absurd (cc p.sorted)
+row_from notation n (line.Name x) bytes p xs i = absurd (cc p.sorted)
 row_from notation n (line.Row y) bytes p xs i = (xs, record { row = y; is = refl; spells = subst (λ bs. SpellsRow notation n bs xs) p.bytes_are i })
 
 -- the numbers of a row are those of its line

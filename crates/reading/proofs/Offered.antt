@@ -33,14 +33,14 @@ units_push (p ∷ os) o =
     ∙ ap (λ us. us ++ b) (sym (append_assoc g (w ++ rest) a))
 
 -- how many lines were read, and how long the row of units is then
-lines_long : {items : ℕ} {gs : List Line} {n : ℕ} {lines : List Line} {units units' : List ℕ} {before after : Reader} → LinesRead items gs n 0 lines units units' before after → length lines ≡ n
+lines_long : {items : ℕ} {gs : List Line} {n : ℕ} {lines : List Line} {units units' : List ℕ} {before after : Reader} → LinesRead items gs n lines units units' before after → length lines ≡ n
 lines_long d = omega (arith, d.many, length-map d.said line_of, ap length d.lines_are)
 
-pub units_long : {items : ℕ} {gs : List Line} {n : ℕ} {lines : List Line} {units units' : List ℕ} {before after : Reader} → LinesRead items gs n 0 lines units units' before after → length units' ≡ length units + n
+pub units_long : {items : ℕ} {gs : List Line} {n : ℕ} {lines : List Line} {units units' : List ℕ} {before after : Reader} → LinesRead items gs n lines units units' before after → length units' ≡ length units + n
 units_long {units = units} d = omega (arith, d.many, ap length d.units_are, length-append units (map units_of d.said), length-map d.said units_of)
 
 -- a side that was read
-side_read : {items : ℕ} {gs : List Line} {n : ℕ} {lines : List Line} {units units' : List ℕ} {before after : Reader} → LinesRead items gs n 0 lines units units' before after → 1 ≤ n → Side items lines
+side_read : {items : ℕ} {gs : List Line} {n : ℕ} {lines : List Line} {units units' : List ℕ} {before after : Reader} → LinesRead items gs n lines units units' before after → 1 ≤ n → Side items lines
 side_read d some = record { some = omega (arith, lines_long d); fair = d.fair; apart = d.apart }
 
 -- an offer was read, and the round and the row of units hold it besides these contents
@@ -78,7 +78,7 @@ module _ {x : Contents} {units : List ℕ} {h : OfferHead} {items : ℕ} {before
   pub give_stops : (f : Fault) → LinesStop items [] h.gives middle f → (due : List Slot) → Stops (offer ∷ due) x before f
   give_stops f stop due = to_gives due _ (stop give_lines x (head_said h) (replicate h.gets get ++ due) (b.known, refl))
 
-  module _ {lines gs : List Line} {none units' : List ℕ} {later : Reader} (g : LinesRead items [] h.gives 0 lines none units' middle later) (same : gs ≡ lines) where
+  module _ {lines gs : List Line} {none units' : List ℕ} {later : Reader} (g : LinesRead items [] h.gives lines none units' middle later) (same : gs ≡ lines) where
     to_gets : (due : List Slot) → Onward (offer ∷ due) x before (replicate h.gets get ++ due) (with_part (get_lines g.said) x (head_said h) []) later
     to_gets due o r = to_gives due o (g.onward give_lines x (head_said h) (replicate h.gets get ++ due) (b.known, refl) o r)
 
@@ -86,7 +86,7 @@ module _ {x : Contents} {units : List ℕ} {h : OfferHead} {items : ℕ} {before
     pub get_stops : (f : Fault) → LinesStop items gs h.gets later f → (due : List Slot) → Stops (offer ∷ due) x before f
     get_stops f stop due = to_gets due _ (stop (get_lines g.said) x (head_said h) due (b.known, g.lines_are ∙ sym same))
 
-    module _ {lines' : List Line} {units'' : List ℕ} {after : Reader} (w : LinesRead items gs h.gets 0 lines' units' units'' later after) where
+    module _ {lines' : List Line} {units'' : List ℕ} {after : Reader} (w : LinesRead items gs h.gets lines' units' units'' later after) where
       abbrev this : OfferWithUnits
       this = record { member = h.member; limit = h.limit; give = g.said; get = w.said }
 
@@ -109,11 +109,11 @@ module _ {x : Contents} {units : List ℕ} {h : OfferHead} {items : ℕ} {before
         onward = λ due o r. to_gets due o (w.onward (get_lines g.said) x (head_said h) due (b.known, g.lines_are ∙ sym same) o r);
         holds = (λ i. record { items = x.items; members = x.members; holdings = x.holdings; offers = same_offers i }) ∙ sym (add fair_offer (omega (arith, b.few, length-map x.offers offer_of)) room);
         row =
-          units_push x.offers this
-          ∙ (λ i. (b.row i ++ gives i) ++ map units_of w.said)
-          ∙ append_assoc units units' (map units_of w.said)
-          ∙ ap (λ us. units ++ us) w.units_are
-          ∙ sym er;
+            units_push x.offers this
+            ∙ (λ i. (b.row i ++ gives i) ++ map units_of w.said)
+            ∙ append_assoc units units' (map units_of w.said)
+            ∙ ap (λ us. units ++ us) w.units_are
+            ∙ sym er;
       }
         where
           gives : map units_of g.said ≡ units'

@@ -1,5 +1,5 @@
 -- The lines of an offer's sides, one after the other.
-use Rattle.std.proofs.Common.{◌≡◌, ℕ, suc, ◌+◌, ◌≤◌, List, [], ◌∷◌, ◌++◌, map, length, replicate, IfOk, Ok, Err, Option, Result, sym, ap, ◌∙◌, subst, inl, inr, append_assoc, append-nil, arith}
+use Rattle.std.proofs.Common.{◌≡◌, ℕ, ◌+◌, ◌-◌, ◌<◌, ◌≤◌, List, [], ◌∷◌, ◌++◌, map, length, replicate, IfOk, Ok, Err, Option, Result, sym, refl, ap, ◌∙◌, subst, inl, inr, append_assoc, append-nil, arith}
 use Rattle.std.specs.List.{ContainsAt as Has, AllByRecursion}
 use Rattle.std.proofs.ByRecursion.{All-push}
 use Rattle.std.proofs.lemmas.List.{length-map, length-append, length_push, map_push}
@@ -22,6 +22,7 @@ use Rattle.layout.proofs.Lists.{none_apart, apart_push, loop_push}
 use Rattle.reading.specs.Offers.{line_said, as_line, FairBelow, Part, give_lines, get_lines, slot, offer_with, with_part, Within, LineAdded, LinesRead, LinesStop}
 use Rattle.reading.specs.Reading.{Missing, Onward, Stops, LineRead}
 use Rattle.reading.specs.declared.side.FilledLine.{FilledLine}
+use Rattle.reading.proofs.Dues.{one_due, all_due}
 use Rattle.reading.proofs.Tested.{give_row, get_row, no_row, tested}
 
 -- a last rule that cannot be broken
@@ -71,24 +72,24 @@ module _ (items : ℕ) (gs above : List Line) (ns : List ℕ) (r : Result Filled
   one_line {before} {after} a line n t same o e give_lines x h ls w q = give_added x h ls before after o (tested give_row (with_part give_lines x h ls) line_said ns a line n r (give_rules x h ls w q t) same o e)
   one_line {before} {after} a line n t same o e (get_lines given) x h ls w q = get_added given x h ls before after o (tested get_row (with_part (get_lines given) x h ls) line_said ns a line n r (get_rules given x h ls w q t) same o e)
 
--- the lines of a part, as many as are due
-module _ (items : ℕ) (gs : List Line) (n : ℕ) where
+-- the lines of a part, one after the other
+module _ (items : ℕ) (gs : List Line) where
   -- none is read yet
-  pub begin : (lines : List Line) (units : List ℕ) (before : Reader) → lines ≡ [] → (m : ℕ) → 0 + m ≡ n → LinesRead items gs n m lines units units before before
-  begin lines units before e m q = record {
+  pub begin : (lines : List Line) (units : List ℕ) (before : Reader) → lines ≡ [] → LinesRead items gs 0 lines units units before before
+  begin lines units before e = record {
     said = [];
-    many = q;
+    many = refl;
     lines_are = sym e;
     units_are = append-nil units;
     fair = subst (AllByRecursion (Fair items)) (sym e) tt;
     apart = subst (λ ls. Distinct (map item_of ls)) (sym e) none_apart;
     no_loop = subst (λ ls. Loop gs ls → ⊥) (sym e) (λ h. omega (arith, (h.2 (record { item = 0; limit = 0; price = 0 })).1.1));
-    onward = λ p x h due w. let same : n ≡ m = omega arith in subst (λ k. Onward (replicate n (slot p) ++ due) (with_part p x h []) before (replicate k (slot p) ++ due) (with_part p x h []) before) same (λ o r. r);
+    onward = λ p x h due w o r. r;
   }
 
-  module _ {m : ℕ} {lines above : List Line} {units units' : List ℕ} {before middle : Reader} (d : LinesRead items gs n (suc m) lines units units' before middle) (same : above ≡ lines) where
+  module _ {n k : ℕ} {lines above : List Line} {units units' : List ℕ} {before middle : Reader} (d : LinesRead items gs k lines units units' before middle) (lt : k < n) (same : above ≡ lines) where
     -- one more
-    pub again : {after : Reader} {lines' : List Line} {units'' : List ℕ} (l : FilledLine) → length units + n ≤ 256 → FairBelow items gs above l.line → ((p : Part) (x : Contents) (h : HeadOfOffer) (ls : List LineWithUnits) → Within p x items gs → map line_of ls ≡ above → (due : List Slot) → Onward (slot p ∷ due) (with_part p x h ls) middle due (with_part p x h (ls ++ line_said l ∷ [])) after) → (r q : Result (Unit {0}) Refusal) → Added 256 lines lines' (l.line ∷ []) r → Added 256 units' units'' (l.units ∷ []) q → LinesRead items gs n m lines' units units'' before after
+    pub again : {after : Reader} {lines' : List Line} {units'' : List ℕ} (l : FilledLine) → length units + n ≤ 256 → FairBelow items gs above l.line → ((p : Part) (x : Contents) (h : HeadOfOffer) (ls : List LineWithUnits) → Within p x items gs → map line_of ls ≡ above → (due : List Slot) → Onward (slot p ∷ due) (with_part p x h ls) middle due (with_part p x h (ls ++ line_said l ∷ [])) after) → (r q : Result (Unit {0}) Refusal) → Added 256 lines lines' (l.line ∷ []) r → Added 256 units' units'' (l.units ∷ []) q → LinesRead items gs (k + 1) lines' units units'' before after
     again {after} {lines'} {units''} l few fair reads r q a b =
         let ls = d.said in
         let many = d.many in
@@ -102,9 +103,9 @@ module _ (items : ℕ) (gs : List Line) (n : ℕ) where
           fair = subst (AllByRecursion (Fair items)) (sym grown) (All-push (Fair items) lines l.line d.fair fair.fair);
           apart = subst (λ xs. Distinct (map item_of xs)) (sym grown) (apart_push item_of lines l.line d.apart (subst (λ ls. Has (map item_of ls) l.line.item → ⊥) same fair.apart));
           no_loop = subst (λ xs. Loop gs xs → ⊥) (sym grown) (λ h. elim (loop_push gs lines l.line h) [ inl p ↦ d.no_loop p | inr p ↦ fair.no_loop p ]);
-          onward = λ p x h due w o z. d.onward p x h due w o (reads p x h ls w (d.lines_are ∙ sym same) (replicate m (slot p) ++ due) o z);
+          onward = λ p x h due w. subst (λ ss. Onward ss (with_part p x h []) before due (with_part p x h (ls ++ line_said l ∷ [])) after) (one_due k (slot p) due) (λ o z. d.onward p x h (slot p ∷ due) w o (reads p x h ls w (d.lines_are ∙ sym same) due o z));
         }
 
     -- the text is refused at the next
     pub stopped : (f : Fault) → ((p : Part) (x : Contents) (h : HeadOfOffer) (ls : List LineWithUnits) → Within p x items gs → map line_of ls ≡ above → (due : List Slot) → Stops (slot p ∷ due) (with_part p x h ls) middle f) → LinesStop items gs n before f
-    stopped f stop p x h due w = d.onward p x h due w _ (stop p x h d.said w (d.lines_are ∙ sym same) (replicate m (slot p) ++ due))
+    stopped f stop p x h due w = subst (λ ss. Stops ss (with_part p x h []) before f) (all_due n k lt (slot p) due) (d.onward p x h _ w _ (stop p x h d.said w (d.lines_are ∙ sym same) (replicate (n - (k + 1)) (slot p) ++ due)))

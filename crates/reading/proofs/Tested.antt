@@ -1,5 +1,5 @@
 -- Lines that are rows of n numbers, tested against the rules of their sort.
-use Rattle.std.proofs.Common.{◌≡◌, ℕ, ◌<◌, List, [], ◌∷◌, ◌++◌, length, get_or, IfOk, None, Ok, Err, Result, sym, refl, ap, ◌∙◌, subst, inr, arith}
+use Rattle.std.proofs.Common.{◌≡◌, ℕ, ◌<◌, List, [], ◌∷◌, length, get_or, IfOk, Ok, Err, Result, sym, refl, ap, ◌∙◌, subst, arith}
 use Rattle.tables.specs.Refusals.{First, refusal}
 use Rattle.tables.specs.declared.refusal.Refusal.{Refusal}
 use Rattle.text.specs.Faults.{result_at}
@@ -8,11 +8,11 @@ use Rattle.text.specs.Readers.{Advanced}
 use Rattle.text.specs.Rows.{row_spelt, SpellsRow}
 use Rattle.text.specs.declared.fault.Fault.{Fault}
 use Rattle.text.specs.declared.reader.Reader.{Reader}
-use Rattle.layout.specs.Layout.{Slot, offer, give, get, Says, offer_row, line_row, spell, Fits, Short, rules, calls_for, with_line}
+use Rattle.layout.specs.Layout.{Slot, offer, give, get, Says, offer_row, line_row, spell, Fits, Short, rules}
 use Rattle.layout.specs.Records.{Contents}
 use Rattle.reading.specs.Offers.{as_head, as_line}
 use Rattle.reading.specs.Reading.{Missing, Stops, LineRead}
-use Rattle.reading.proofs.Steps.{Lies, Judged, missed, judged}
+use Rattle.reading.proofs.Steps.{Lies, missed, ruled}
 
 -- a sort of lines that are rows of n numbers, and what n numbers say
 pub record InRow (s : Slot) (n : ℕ) : Type 0 where
@@ -63,8 +63,4 @@ module _ {s : Slot} {n : ℕ} (is : InRow s n) (x : Contents) where
 
   -- one does, and a test of its numbers says what comes of it
   pub tested : {Y : Type 0} (said : Y → Says s) {before after : Reader} (ns : List ℕ) → Advanced (SpellsRow unsigned n) before after ns → (line : ℕ) → line ≡ before.line → (r : Result Y Refusal) → First (rules s x (is.says ns)) (refusal r) → IfOk r (λ y. said y ≡ is.says ns) → (o : Result Y Fault) → o ≡ result_at line r → LineRead s said x before after o
-  tested {Y} said ns a line at r first same o e = judged s x (SpellsRow unsigned n) said a line at r (verdict r first same) o e
-    where
-      verdict : (r : Result Y Refusal) → First (rules s x (is.says ns)) (refusal r) → IfOk r (λ y. said y ≡ is.says ns) → Judged s x (SpellsRow unsigned n) ns said r
-      verdict (Ok y) none q = subst (λ c. Lies s x (SpellsRow unsigned n) ns c × First (rules s x c) None) (sym q) (row_lies ns a.line_bytes a.is, none)
-      verdict (Err d) some q = inr (is.says ns, row_lies ns a.line_bytes a.is, some)
+  tested said ns a = ruled s x (SpellsRow unsigned n) said a (is.says ns) (row_lies ns a.line_bytes a.is)

@@ -9,6 +9,7 @@ use Rattle.round.specs.Rounds.{book}
 use Rattle.reading.specs.Held.{held}
 use Rattle.reading.specs.declared.record.Record.{Record}
 
+-- what the record holds
 abbrev pub contents : Record → Contents
 contents r = held r.kind (book r.round) r.units r.levels
 

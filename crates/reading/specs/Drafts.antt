@@ -35,5 +35,5 @@ abbrev pub ReadsSection : Entry → Draft → Draft → Result (Unit {0}) Fault 
 ReadsSection e before after r = MatchResult r (λ _. Read e (head (section_of e) ∷ []) before after) (λ f. Halts (head (section_of e) ∷ []) before f)
 
 -- the section of the items was read after these contents, which have none; or the text is refused in it
-abbrev pub Begins : Reader → Contents → Result Draft Fault → Type 0
-Begins before x r = MatchResult r (λ d. ((due : List Slot) → Onward (head Items ∷ due) x before due (so_far d) d.reader) × (without Item (so_far d) ≡ x)) (λ f. (due : List Slot) → Stops (head Items ∷ due) x before f)
+abbrev pub ReadsItems : Reader → Contents → Result Draft Fault → Type 0
+ReadsItems before x r = MatchResult r (λ d. ((due : List Slot) → Onward (head Items ∷ due) x before due (so_far d) d.reader) × (without Item (so_far d) ≡ x)) (λ f. (due : List Slot) → Stops (head Items ∷ due) x before f)

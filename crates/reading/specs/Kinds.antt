@@ -6,6 +6,7 @@ use Rattle.layout.specs.Records.{Kind, by_money, by_money_then_weeks, Contents}
 use Rattle.reading.specs.declared.kind.Kind.{Kind as Told}
 use Rattle.reading.specs.declared.kind.Kind.TheVariants.{Money, MoneyThenWeeks}
 
+-- how many parts a kind has
 abbrev pub count_of : Told → ℕ
 count_of Money = 1
 count_of MoneyThenWeeks = 2
@@ -14,6 +15,7 @@ count_of MoneyThenWeeks = 2
 abbrev pub WithParts : ℕ → Result Told Refusal → Type 0
 WithParts n r = MatchResult r (λ k. count_of k ≡ n) (λ e. (e ≡ Layout) × ((k : Told) → count_of k ≢ n))
 
+-- the kind as the layout has it
 abbrev pub kind : Told → Kind
 kind Money = by_money
 kind MoneyThenWeeks = by_money_then_weeks

@@ -14,17 +14,19 @@ use Rattle.reading.specs.Reading.{Onward, Stops}
 use Rattle.reading.specs.declared.offer_head.OfferHead.{OfferHead}
 use Rattle.reading.specs.declared.side.FilledLine.{FilledLine}
 
--- what the head of an offer says, and what a line of a side does
+-- what the head of an offer says
 abbrev pub head_said : OfferHead → HeadOfOffer
 head_said h = record { member = h.member; limit = h.limit; gives = h.gives; gets = h.gets }
 
+-- what a line of a side says
 abbrev pub line_said : FilledLine → LineWithUnits
 line_said l = record { line = l.line; units = l.units }
 
--- what a row of four numbers says as the head of an offer, and as a line of a side
+-- what a row of four numbers says as the head of an offer
 abbrev pub as_head : List ℕ → HeadOfOffer
 as_head ns = record { member = slice_index ns 0; limit = slice_index ns 1; gives = slice_index ns 2; gets = slice_index ns 3 }
 
+-- what it says as a line of a side
 abbrev pub as_line : List ℕ → LineWithUnits
 as_line ns = record { line = record { item = slice_index ns 0; limit = slice_index ns 1; price = slice_index ns 2 }; units = slice_index ns 3 }
 
@@ -59,14 +61,17 @@ pub data Part : Type 0 where
   give_lines : Part
   get_lines : List LineWithUnits → Part
 
+-- the sort of its lines
 abbrev pub slot : Part → Slot
 slot give_lines = give
 slot (get_lines gs) = get
 
+-- the lines that are given
 abbrev pub given : Part → List LineWithUnits
 given give_lines = []
 given (get_lines gs) = gs
 
+-- the offer with this head, of which these lines are read
 abbrev pub offer_with : Part → HeadOfOffer → List LineWithUnits → OfferWithUnits
 offer_with give_lines h ls = record { member = h.member; limit = h.limit; give = ls; get = [] }
 offer_with (get_lines gs) h ls = record { member = h.member; limit = h.limit; give = gs; get = ls }
@@ -83,16 +88,16 @@ Within p x items lines = (length x.items ≡ items) × (map line_of (given p) �
 abbrev pub LineAdded : Part → Contents → HeadOfOffer → List LineWithUnits → Reader → Reader → Result FilledLine Fault → Type 0
 LineAdded p x h ls before after r = MatchResult r (λ l. (due : List Slot) → Onward (slot p ∷ due) (with_part p x h ls) before due (with_part p x h (ls ++ line_said l ∷ [])) after) (λ f. (due : List Slot) → Stops (slot p ∷ due) (with_part p x h ls) before f)
 
--- of n lines of a part all but m were read: they keep the rules and are these, and their units came to the end of a row
-pub record LinesRead (items : ℕ) (gs : List Line) (n m : ℕ) (lines : List Line) (units units' : List ℕ) (before after : Reader) : Type 0 where
+-- n lines of a part were read: they keep the rules and are these, and their units came to the end of a row
+pub record LinesRead (items : ℕ) (gs : List Line) (n : ℕ) (lines : List Line) (units units' : List ℕ) (before after : Reader) : Type 0 where
   pub said : List LineWithUnits
-  pub many : length said + m ≡ n
+  pub many : length said ≡ n
   pub lines_are : map line_of said ≡ lines
   pub units_are : units ++ map units_of said ≡ units'
   pub fair : AllByRecursion (Fair items) lines
   pub apart : Distinct (map item_of lines)
   pub no_loop : Loop gs lines → ⊥
-  pub onward : (p : Part) (x : Contents) (h : HeadOfOffer) (due : List Slot) → Within p x items gs → Onward (replicate n (slot p) ++ due) (with_part p x h []) before (replicate m (slot p) ++ due) (with_part p x h said) after
+  pub onward : (p : Part) (x : Contents) (h : HeadOfOffer) (due : List Slot) → Within p x items gs → Onward (replicate n (slot p) ++ due) (with_part p x h []) before due (with_part p x h said) after
 
 -- the text is refused at one of n lines of a part
 abbrev pub LinesStop : ℕ → List Line → ℕ → Reader → Fault → Type 0

@@ -15,11 +15,10 @@ use Rattle.text.specs.declared.line.Line.TheVariants.{Row as IsRow}
 use Rattle.text.specs.declared.reader.Reader.{Reader}
 use Rattle.text.specs.declared.row.Row.{Row}
 use Rattle.text.specs.declared.section.Section.{Section}
-use Rattle.text.specs.declared.section.Section.TheVariants.{Items, Members, Holdings, Offers, Levels}
-use Rattle.layout.specs.Layout.{Slot, head, Says, calls_for, with_line}
+use Rattle.layout.specs.Layout.{Slot, Says, calls_for, with_line}
 use Rattle.layout.specs.Records.{Contents}
-use Rattle.reading.specs.declared.next.Numbered.{Numbered}
 use Rattle.layout.specs.Runs.{Outcome, reads, refused, ComesTo}
+use Rattle.reading.specs.declared.next.Numbered.{Numbered}
 
 -- the text has no ended line next that is an x: it departs from the layout there
 pub record Missing {X : Type 0} (Is : List ℕ → X → Type 0) (before : Reader) (f : Fault) : Type 0 where
@@ -55,10 +54,6 @@ Stops due x before f = ComesTo due x before.rest.now before.line (refused (numbe
 -- a line of this sort was read, which says this of each answer; or the text is refused there
 abbrev pub LineRead : {X : Type 0} → (s : Slot) → (X → Says s) → Contents → Reader → Reader → Result X Fault → Type 0
 LineRead s said x before after r = MatchResult r (λ v. (due : List Slot) → Onward (s ∷ due) x before (calls_for s (said v) ++ due) (with_line s (said v) x) after) (λ f. (due : List Slot) → Stops (s ∷ due) x before f)
-
--- the heads that are due after the section of the kind
-abbrev pub after_kind : List Slot
-after_kind = head Items ∷ head Members ∷ head Holdings ∷ head Offers ∷ head Levels ∷ []
 
 -- no line is due, and the text reads as these contents; or it is refused since something is left
 abbrev pub Ends : Contents → Reader → Result (Unit {0}) Fault → Type 0

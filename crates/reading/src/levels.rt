@@ -73,6 +73,7 @@ impl Kind {
     pub(crate) fn next_level(self, reader: &mut Reader<'_>) -> Result<Level, Fault>
         ensures { (x : Contents) → x.kind ≡ kind_as self → LineRead a_level (numbers (kind_as self)) x reader.old reader.new result }
     {
-        self.next_numbers(reader)?.test(|level| self.test_level(level))
+        self.next_numbers(reader)?
+            .test(|level| self.test_level(level))
     }
 }

@@ -72,5 +72,9 @@ pub(crate) fn next_row<T: Numeral, const N: usize>(
 pub(crate) fn test_same(bytes: &[u8], wanted: &[u8], refusal: Refusal) -> Result<(), Refusal>
     ensures { SameTested bytes.now wanted.now refusal result }
 {
-    if bytes == wanted { Ok(()) } else { Err(refusal) }
+    if bytes == wanted {
+        Ok(())
+    } else {
+        Err(refusal)
+    }
 }

@@ -24,7 +24,7 @@ pub(crate) struct OfferHead {
 fn is_overfull(lines: u64, gives: u64, gets: u64) -> bool
     ensures { Decides result (256 < lines + (gives + gets)) }
 {
-    256 < lines || 256 < gives || 256 < gets || 256 < lines + gives + gets
+    lines.saturating_add(gives).saturating_add(gets) > 256
 }
 
 // The head that has these numbers, or the first rule that they break.

@@ -29,7 +29,7 @@ pub(crate) struct Side<'a> {
 
 impl Side<'_> {
     // The line that has these numbers, or the first rule that they break. `above` has the lines of the side so far.
-    fn test_line(self, above: &[Line], numbers: [u64; 4]) -> Result<FilledLine, Refusal>
+    fn test_line(self, numbers: [u64; 4], above: &[Line]) -> Result<FilledLine, Refusal>
         ensures { LineTested self.entry.items self.entry.give.now above.now numbers result }
     {
         let [item, limit, price, units] = numbers;
@@ -60,12 +60,12 @@ impl Side<'_> {
     }
 
     // The next line, as one of the side below these.
-    fn next_line(self, above: &[Line], reader: &mut Reader<'_>) -> Result<FilledLine, Fault>
+    fn next_line(self, reader: &mut Reader<'_>, above: &[Line]) -> Result<FilledLine, Fault>
         ensures fair { IfOk result (λ l. FairBelow self.entry.items self.entry.give.now above.now l.line) }
         ensures read { (p : Part) (x : Contents) (h : HeadOfOffer) (ls : List LineWithUnits) → Within p x self.entry.items self.entry.give.now → map line_of ls ≡ above.now → LineAdded p x h ls reader.old reader.new result }
     {
         let row = next_row::<u64, 4>(reader)?;
-        at_line(row.line, self.test_line(above, row.said))
+        at_line(row.line, self.test_line(row.said, above))
     }
 
     // So many lines of the side, and their units at the end of a row.
@@ -76,7 +76,7 @@ impl Side<'_> {
         units: &mut Table<u32, 256>,
     ) -> Result<Table<Line, 256>, Fault>
         requires { length units.old + n ≤ 256 }
-        ensures { MatchResult result (λ lines. LinesRead self.entry.items self.entry.give.now n 0 lines units.old units.new reader.old reader.new) (λ f. LinesStop self.entry.items self.entry.give.now n reader.old f) }
+        ensures { MatchResult result (λ lines. LinesRead self.entry.items self.entry.give.now n lines units.old units.new reader.old reader.new) (λ f. LinesStop self.entry.items self.entry.give.now n reader.old f) }
     {
         let mut lines = Table::new(Line {
             item: 0,
@@ -84,7 +84,7 @@ impl Side<'_> {
             price: 0,
         });
         for _ in 0..n {
-            let filled = self.next_line(lines.as_slice(), reader)?;
+            let filled = self.next_line(reader, lines.as_slice())?;
             let _ = lines.push(filled.line);
             let _ = units.push(filled.units);
         }

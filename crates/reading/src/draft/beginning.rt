@@ -1,7 +1,7 @@
 ghost use Rattle.std.specs.Prelude.{◌≡◌, codes, length};
 ghost use Rattle.layout.specs.Layout.{item as an_item, nothing};
 ghost use Rattle.layout.specs.Records.{Contents};
-ghost use Rattle.reading.specs.Drafts.{Begins};
+ghost use Rattle.reading.specs.Drafts.{ReadsItems};
 ghost use Rattle.reading.specs.Kinds.{of_kind};
 ghost use Rattle.reading.specs.Reading.{LineRead};
 
@@ -26,7 +26,7 @@ fn next_cash(reader: &mut Reader<'_>) -> Result<(), Fault>
 impl<'a> Draft<'a> {
     // The section of the items, after that of the kind. A round has the first item, cash, from its making.
     pub(crate) fn begin(mut reader: Reader<'a>, kind: Kind) -> Result<Draft<'a>, Fault>
-        ensures { Begins reader.entry (of_kind kind nothing) result }
+        ensures { ReadsItems reader.entry (of_kind kind nothing) result }
     {
         let n = Entry::Item.next_count(&mut reader, 0)?;
         next_cash(&mut reader)?;

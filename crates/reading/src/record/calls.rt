@@ -44,12 +44,7 @@ impl Record {
     pub fn into_round(self) -> OpenRound
         ensures { book result ≡ book_of (contents self) }
     {
-        let Record {
-            kind: _,
-            round,
-            units: _,
-            levels: _,
-        } = self;
+        let Record { round, .. } = self;
         round
     }
 }

@@ -24,11 +24,11 @@ impl Record {
         draft.read_section(Entry::Level)?;
         draft.end()?;
         let Draft {
-            reader: _,
             kind,
             round,
             units,
             levels,
+            ..
         } = draft;
         Ok(Record {
             kind,

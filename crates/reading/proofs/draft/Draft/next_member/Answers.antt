@@ -1,11 +1,11 @@
-use Rattle.std.proofs.Common.{refl}
+use Rattle.std.proofs.Common.{Ok, refl}
 use Rattle.std.proofs.lemmas.Result.{err_from_is_err_and}
 use Rattle.tables.specs.Refusals.{refusal}
 use Rattle.layout.specs.Layout.{member}
 use Rattle.round.specs.Rounds.{book}
 use Rattle.reading.specs.Drafts.{so_far}
 use Rattle.reading.specs.declared.entry.Entry.TheVariants.{Member}
-use Rattle.reading.proofs.Gains.{accepted, refused}
+use Rattle.reading.proofs.Gains.{refused, told}
 use Rattle.reading.proofs.Named.{IsName, referred, member_rules, member_lies, member_held}
 use Rattle.reading.proofs.Steps.{missed}
 use Rattle.reading.proofs.draft.Draft.next_member.Goals as goal
@@ -31,4 +31,4 @@ returns c =
     let name = c.in_ok-name.name.said in
     let r = c.member.result in
     let t = c.member.ensures.outcome in
-    accepted Member d _ IsName name.now refl c.in_ok-name.ensures.1 (member_lies x name) _ r (member_rules x name.now (refusal r) c.requires t.refused) (member_held d.kind d.units d.levels (book d.round) (book c.member.new.self) name.now r t) _ c.in_ok-at_line.ensures
+    told Member d _ IsName name.now refl c.in_ok-name.ensures.1 (member_lies x name) _ c.in_ok-name.ensures.0 r (member_rules x name.now (refusal r) c.requires t.refused) (member_held d.kind d.units d.levels (book d.round) (book c.member.new.self) name.now r t) (Ok _) c.in_ok-at_line.ensures

@@ -1,10 +1,9 @@
 -- Lines added to a buffer, one after another.
-use Rattle.std.proofs.Common.{◌≡◌, ℕ, zero, suc, ◌+◌, ◌<◌, ◌≤◌, List, [], ◌∷◌, ◌++◌, map, length, get_or, take, Result, sym, refl, ap, ◌∙◌, subst, append_assoc, append-nil}
-use Rattle.std.proofs.lemmas.List.{map_more, take_all}
+use Rattle.std.proofs.Common.{◌≡◌, ℕ, zero, suc, ◌+◌, ◌<◌, ◌≤◌, List, [], ◌∷◌, ◌++◌, map, length, get_or, take, Result, sym, refl, ap, ◌∙◌, subst, append_assoc, append-nil, arith}
+use Rattle.std.proofs.lemmas.List.{length-take, map_more, take_all}
 use Rattle.tables.specs.declared.refusal.Refusal.{Refusal}
-use Rattle.text.specs.Buffers.{written, Put}
+use Rattle.text.specs.Buffers.{Put}
 use Rattle.text.specs.declared.buffer.Buffer.{Buffer}
-use Rattle.text.proofs.Puts.{written_few}
 use Rattle.layout.specs.Render.{ended}
 use Rattle.layout.proofs.Sections.{join_text}
 use Rattle.record.specs.Writing.{Adds}
@@ -21,18 +20,22 @@ more_text a b c xs ys p q = q ∙ ap (λ l. take 32768 (l ++ ys)) p ∙ take_aga
 ended_append : (ls ms : List (List ℕ)) → ended ls ++ ended ms ≡ ended (ls ++ ms)
 ended_append ls ms = join_text (ended ls ++ ended ms) (ended ms) [] ls ms refl (sym (append-nil (ended ms))) ∙ append-nil (ended (ls ++ ms))
 
-pub adds_none : (b : Buffer) → Adds b b []
-adds_none b = record { text = sym (take_all 32768 (written b ++ []) (subst (λ l. length l ≤ 32768) (sym (append-nil (written b))) (written_few b)) ∙ append-nil (written b)) }
+-- a buffer that lines were added to is as long as it may be
+pub adds_few : {a b : Buffer} {ls : List (List ℕ)} → Adds a b ls → length b ≤ 32768
+adds_few {a} {b} {ls} p = omega (arith, ap length p.text, length-take 32768 (a ++ ended ls))
+
+pub adds_none : (b : Buffer) → length b ≤ 32768 → Adds b b []
+adds_none b few = record { text = sym (take_all 32768 (b ++ []) (subst (λ l. length l ≤ 32768) (sym (append-nil b)) few) ∙ append-nil b) }
 
 pub adds_same : {a b : Buffer} {ls ms : List (List ℕ)} → ls ≡ ms → Adds a b ls → Adds a b ms
 adds_same {a} {b} e p = subst (Adds a b) e p
 
 pub adds_then : {a b c : Buffer} {ls ms : List (List ℕ)} → Adds a b ls → Adds b c ms → Adds a c (ls ++ ms)
-adds_then {a} {b} {c} {ls} {ms} p q = record { text = more_text (written a) (written b) (written c) (ended ls) (ended ms) p.text q.text ∙ ap (λ l. take 32768 (written a ++ l)) (ended_append ls ms) }
+adds_then {a} {b} {c} {ls} {ms} p q = record { text = more_text a b c (ended ls) (ended ms) p.text q.text ∙ ap (λ l. take 32768 (a ++ l)) (ended_append ls ms) }
 
 -- bytes, and the byte that ends the line
-pub adds_line : {a : Buffer} (b : Buffer) {c : Buffer} {xs : List ℕ} {r s : Result (Unit {0}) Refusal} → Put (written a) (written b) xs r → Put (written b) (written c) (10 ∷ []) s → Adds a c (xs ∷ [])
-adds_line {a} b {c} {xs} p q = record { text = more_text (written a) (written b) (written c) xs (10 ∷ []) p.outcome q.outcome }
+pub adds_line : {a : Buffer} (b : Buffer) {c : Buffer} {xs : List ℕ} {r s : Result (Unit {0}) Refusal} → Put a b xs r → Put b c (10 ∷ []) s → Adds a c (xs ∷ [])
+adds_line {a} b {c} {xs} p q = record { text = more_text a b c xs (10 ∷ []) p.outcome q.outcome }
 
 -- a line for each of the first entries: one entry more, and all of them
 pub adds_more : {X : Type 0} {a b c : Buffer} (f : X → List ℕ) (xs : List X) (i : ℕ) (d : X) {line : List ℕ} → i < length xs → line ≡ f (get_or xs i d) → Adds a b (map f (take i xs)) → Adds b c (line ∷ []) → Adds a c (map f (take (i + 1) xs))

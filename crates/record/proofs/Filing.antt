@@ -10,7 +10,7 @@ use Rattle.tables.specs.declared.refusal.Refusal.TheVariants.{Bounds, Short}
 use Rattle.tables.proofs.Firsts.{here, next}
 use Rattle.terms.specs.Names.{letters}
 use Rattle.terms.specs.declared.name.Name.{Name}
-use Rattle.text.specs.Buffers.{written, Copied}
+use Rattle.text.specs.Buffers.{Copied}
 use Rattle.text.specs.declared.buffer.Buffer.{Buffer}
 use Rattle.text.specs.declared.section.Section.{Section}
 use Rattle.worth.specs.Kinds.{Ops}
@@ -158,7 +158,7 @@ module _ {V W : Type 0} {o : Ops W} {k : Kind} {level : W → Level} {worth : Le
         (reads_records (render (contents_of k b (closed_allotment x) zs)) (contents_of k b (closed_allotment x) zs)).1 (refl, valid)
 
     -- a buffer that was empty takes the record whole
-    whole_text : (before after : Buffer) → written before ≡ [] → nodes (closed_book x) ≤ length first → Adds before after (lines_of (contents_of k (closed_book x) (closed_allotment x) (map (λ w. numbers k (level w)) first))) → written after ≡ render (filed k (closed_book x) (closed_allotment x) (map (λ w. numbers k (level w)) ws))
+    whole_text : (before after : Buffer) → before ≡ [] → nodes (closed_book x) ≤ length first → Adds before after (lines_of (contents_of k (closed_book x) (closed_allotment x) (map (λ w. numbers k (level w)) first))) → after ≡ render (filed k (closed_book x) (closed_allotment x) (map (λ w. numbers k (level w)) ws))
     whole_text before after empty le p =
         let b = closed_book x in
         p.text
@@ -166,8 +166,8 @@ module _ {V W : Type 0} {o : Ops W} {k : Kind} {level : W → Level} {worth : Le
         ∙ ap (λ zs. take 32768 (render (contents_of k b (closed_allotment x) zs))) (first_levels told (nodes b) ws first is)
         ∙ take_all 32768 _ (filed_reads le).0
 
-    pub files_copied : (before text : Buffer) (page after : List ℕ) (r : Result ℕ Refusal) → written before ≡ [] → nodes (closed_book x) ≤ length first → Adds before text (lines_of (contents_of k (closed_book x) (closed_allotment x) (map (λ w. numbers k (level w)) first))) → Copied (written text) page after r → Files k (closed_book x) (closed_allotment x) (map (λ w. numbers k (level w)) ws) page after r
+    pub files_copied : (before text : Buffer) (page after : List ℕ) (r : Result ℕ Refusal) → before ≡ [] → nodes (closed_book x) ≤ length first → Adds before text (lines_of (contents_of k (closed_book x) (closed_allotment x) (map (λ w. numbers k (level w)) first))) → Copied text page after r → Files k (closed_book x) (closed_allotment x) (map (λ w. numbers k (level w)) ws) page after r
     files_copied before text page after r empty le p c =
         let b = closed_book x in
         let enough = enough_levels told (nodes b) ws first is le in
-        copied k b (closed_allotment x) (map (λ w. numbers k (level w)) ws) (written text) page after r (whole_text before text empty le p) (λ any. none (worths_over told (nodes b) ws first is any)) (λ lt. omega arith) (filed_reads le) c
+        copied k b (closed_allotment x) (map (λ w. numbers k (level w)) ws) text page after r (whole_text before text empty le p) (λ any. none (worths_over told (nodes b) ws first is any)) (λ lt. omega arith) (filed_reads le) c

@@ -1,4 +1,4 @@
-ghost use Rattle.std.specs.Prelude.{◌≡◌, ◌<◌, [], ◌∷◌, length};
+ghost use Rattle.std.specs.Prelude.{◌≡◌, ◌<◌, ◌≤◌, [], ◌∷◌, length};
 ghost use Rattle.book.specs.Rows.{map_with};
 ghost use Rattle.layout.specs.Records.{fill_line, fill_offer};
 ghost use Rattle.layout.specs.Render.{offers_lines, offers_section};
@@ -22,7 +22,7 @@ fn write_side<W: Worth>(
     side: Side,
     lines: &[Line],
 )
-    requires { (offer < length (closed_book round.now).offers) × (lines.now ≡ lines_on side (offer_at (closed_book round.now) offer)) }
+    requires { (offer < length (closed_book round.now).offers) × (lines.now ≡ lines_on side (offer_at (closed_book round.now) offer)) × (length buffer.old ≤ 32768) }
     ensures { Adds buffer.old buffer.new (side_lines (map_with fill_line lines.now (units_on side (closed_allotment round.now offer)))) }
 {
     for (i, line) in lines.iter().enumerate() {

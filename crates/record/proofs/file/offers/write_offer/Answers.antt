@@ -1,4 +1,4 @@
-use Rattle.std.proofs.Common.{◌≡◌, ◌<◌, ◌≤◌, [], ◌∷◌, length, get_or, ap, ◌∙◌, subst}
+use Rattle.std.proofs.Common.{◌≡◌, ◌<◌, ◌≤◌, [], ◌∷◌, length, get_or, ap, ◌∙◌, subst, rules}
 use Rattle.std.proofs.lemmas.Option.{MatchOption-at_some}
 use Rattle.text.specs.Numbers.{unsigned}
 use Rattle.text.specs.Rows.{row_spelt}
@@ -9,8 +9,15 @@ use Rattle.round.specs.Closed.{closed_allotment}
 use Rattle.round.specs.Rounds.{book}
 use Rattle.round.specs.Views.{seen}
 use Rattle.record.specs.Writing.{Adds}
+use Rattle.record.proofs.Adding.{adds_few}
 use Rattle.record.proofs.Offered.{adds_offer}
 use Rattle.record.proofs.file.offers.write_offer.Goals as goal
+
+pub write_side-requires : goal.write_side-requires
+write_side-requires g c = (search rules, search rules, adds_few c.write_row.ensures)
+
+pub write_side-requires-2 : goal.write_side-requires-2
+write_side-requires-2 g c = (search rules, search rules, adds_few c.write_side.ensures)
 
 pub returns : goal.returns
 returns g c =

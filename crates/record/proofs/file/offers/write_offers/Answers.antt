@@ -6,12 +6,12 @@ use Rattle.layout.specs.Layout.{head, spell}
 use Rattle.layout.specs.Records.{fill_offer}
 use Rattle.layout.specs.Render.{offers_lines}
 use Rattle.round.specs.Closed.{closed_book, closed_allotment}
-use Rattle.record.proofs.Adding.{adds_none, adds_same, adds_then}
+use Rattle.record.proofs.Adding.{adds_few, adds_none, adds_same, adds_then}
 use Rattle.record.proofs.Offered.{adds_one_offer, adds_offers}
 use Rattle.record.proofs.file.offers.write_offers.Goals as goal
 
 pub loop-k-init : goal.loop-k-init
-loop-k-init g c = adds_none _
+loop-k-init g c = adds_none _ (adds_few c.write_head.ensures)
 
 pub loop-k-preserved : goal.loop-k-preserved
 loop-k-preserved g c =

@@ -12,7 +12,7 @@ pub overflow_cast-i : goal.overflow_cast-i
 overflow_cast-i g c = omega (arith, ap length c.requires.1, few_lines c.args.round.now c.args.side c.args.offer c.requires.0)
 
 pub loop-i-init : goal.loop-i-init
-loop-i-init g c = adds_none _
+loop-i-init g c = adds_none _ c.requires.2
 
 pub unwrap-units-requires : goal.unwrap-units-requires
 unwrap-units-requires g c =

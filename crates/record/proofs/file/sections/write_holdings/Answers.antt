@@ -3,11 +3,11 @@ use Rattle.text.specs.Numbers.{unsigned}
 use Rattle.text.specs.Rows.{row_spelt}
 use Rattle.book.specs.Books.{no_holding}
 use Rattle.layout.specs.Layout.{holding, spell}
-use Rattle.record.proofs.Adding.{adds_none, adds_then, adds_more, adds_all}
+use Rattle.record.proofs.Adding.{adds_few, adds_none, adds_then, adds_more, adds_all}
 use Rattle.record.proofs.file.sections.write_holdings.Goals as goal
 
 pub loop-h-init : goal.loop-h-init
-loop-h-init c = adds_none _
+loop-h-init c = adds_none _ (adds_few c.write_head.ensures)
 
 pub loop-h-preserved : goal.loop-h-preserved
 loop-h-preserved c =

@@ -4,11 +4,11 @@ use Rattle.std.proofs.lemmas.List.{length-map}
 use Rattle.text.specs.declared.section.Section.TheVariants.{Levels}
 use Rattle.layout.specs.Layout.{head, level, spell}
 use Rattle.reading.specs.Levels.{numbers}
-use Rattle.record.proofs.Adding.{adds_none, adds_same, adds_then, adds_more, adds_all}
+use Rattle.record.proofs.Adding.{adds_few, adds_none, adds_same, adds_then, adds_more, adds_all}
 use Rattle.record.proofs.file.sections.write_levels.Goals as goal
 
 pub loop-w-init : goal.loop-w-init
-loop-w-init g c = adds_none _
+loop-w-init g c = adds_none _ (adds_few c.write_head.ensures)
 
 pub loop-w-preserved : goal.loop-w-preserved
 loop-w-preserved g c =

@@ -7,6 +7,7 @@ use Rattle.text.specs.declared.line.Line.TheVariants as line
 use Rattle.text.specs.declared.line.Sort.{Sort}
 use Rattle.text.specs.declared.line.Sort.TheVariants as sort
 
+-- which sort of line it is
 abbrev pub sort_of : Line → Sort
 sort_of (line.Head section count) = sort.Head
 sort_of (line.Name name) = sort.Name

@@ -24,9 +24,11 @@ pub record Notation (X : Type 0) : Type 0 where
   pub spelling : X → List ℕ
   pub digit_count : X → ℕ
 
+-- numbers as they are
 abbrev pub unsigned : Notation ℕ
 unsigned = record { spelling = spelt; digit_count = λ n. length (spelt n) }
 
+-- levels, of which the minus is no digit
 abbrev pub signed : Notation ℤ
 signed = record { spelling = level_spelt; digit_count = λ z. length (spelt (unsigned_abs z)) }
 

@@ -60,7 +60,7 @@ impl Buffer {
         Ok(())
     }
 
-    // Puts a number in, in decimal digits. std has no plainer form: it does not say how much a failed `write!` has put in.
+    // Puts a number in, in decimal digits. A `write!` is no plainer: where it fails, std does not say how much it has put in.
     pub fn number(&mut self, n: u64) -> Result<(), Refusal>
         ensures { Put self.old self.new (spelt n) result }
     {
@@ -81,7 +81,7 @@ impl Buffer {
         self.number(z.unsigned_abs())
     }
 
-    // Puts numbers in, with one space between.
+    // Puts numbers in, with one space between; of no numbers, nothing.
     pub fn row<T: Numeral>(&mut self, numbers: &[T]) -> Result<(), Refusal>
         ensures { Put self.old self.new (row_spelt T.Numeral.notation numbers.now) result }
     {

@@ -3,7 +3,7 @@ ghost use Rattle.std.specs.Prelude.{◌+◌, ◌≤◌, length};
 mod calls;
 
 // What is left of a text to be read, and the number of its first line.
-// No one value is plainer: the layout's contracts name both fields.
+// It has no `impl Model`, which would be no plainer: what reads a record states its outcome by both fields.
 #[derive(Drop)]
 pub struct Reader<'a> {
     rest: &'a [u8],

@@ -1,8 +1,8 @@
-use Rattle.std.proofs.Common.{Ok, Err, refl, ap, ◌∙◌, subst, arith}
+use Rattle.std.proofs.Common.{Ok, Err, refl, ap, ◌∙◌, subst}
 use Rattle.std.proofs.lemmas.Result.{err_from_is_err_and}
 use Rattle.text.specs.Faults.{result_at}
 use Rattle.text.specs.Lines.{Says}
-use Rattle.text.proofs.Cuts.{no_first, first_once, rest_shorter}
+use Rattle.text.proofs.Cuts.{no_first, first_once}
 use Rattle.text.proofs.Faults.{layout_fault, cut_at_line}
 use Rattle.text.proofs.reader.Reader.next_line.Goals as goal
 
@@ -20,9 +20,3 @@ returns-in_err-line c =
     let here = cut_at_line 10 c.args.self.now.rest.now line c.cut.result (Ok c.in_ok-parts.parts) c.cut.ensures (c.in_ok-parts.ensures ∙ ap (result_at line) c.ok_or.ensures.value) in
     let h = layout_fault _ _ _ _ c.in_err-line.ensures c.read.ensures in
     rw (p.1, p.2) (record { fault = h.0; none = λ x l rest f s. h.1 x (subst (λ l. Says c.args.sort l x) (first_once f here).0 s); same = refl })
-
-pub invariant_of-self : goal.invariant_of-self
-invariant_of-self c =
-    let line = c.args.self.now.line in
-    let here = cut_at_line 10 c.args.self.now.rest.now line c.cut.result (Ok c.in_ok-parts.parts) c.cut.ensures (c.in_ok-parts.ensures ∙ ap (result_at line) c.ok_or.ensures.value) in
-    record { few = omega (arith, rest_shorter here) }

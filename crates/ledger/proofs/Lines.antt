@@ -55,8 +55,8 @@ module _ (rest after : List ℕ) (part : Bor (List ℕ)) (i : ℕ) (is : rest �
   next_line some (Some p) h line e =
       ap lines (is ∙ ap (λ l. l ++ after) h ∙ append_assoc p.now (10 ∷ []) after)
       ∙ line_more p.now after (λ k lt ten.
-          let size : length part.now ≡ length p.now + 1 = omega (arith, ap length h, length-append p.now (10 ∷ [])) in
-          inside k (omega arith) (omega (arith, long)) (ap (λ l. get_or l k 0) h ∙ get_or_append_left p.now (10 ∷ []) 0 k lt ∙ ten))
+      let size : length part.now ≡ length p.now + 1 = omega (arith, ap length h, length-append p.now (10 ∷ [])) in
+      inside k (omega arith) (omega (arith, long)) (ap (λ l. get_or l k 0) h ∙ get_or_append_left p.now (10 ∷ []) 0 k lt ∙ ten))
       ∙ ap (λ b. b.now ∷ lines after) (sym e)
 
 -- the trade of a line is entered, or the line is refused

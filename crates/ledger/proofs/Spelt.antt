@@ -1,5 +1,5 @@
 -- The words of a line, and what they say of the trade that it spells.
-use Rattle.std.proofs.Common.{◌≡◌, ℕ, ◌+◌, ◌^◌, ◌<◌, Bool, true, false, ◌||◌, List, [], ◌∷◌, ◌++◌, Some, None, Ok, Err, Option, eqb, decimal, sym, refl, ap, ◌∙◌, subst, arith}
+use Rattle.std.proofs.Common.{◌≡◌, ℕ, ◌^◌, ◌<◌, Bool, true, false, ◌||◌, List, [], ◌∷◌, ◌++◌, Some, None, Ok, Err, Option, eqb, decimal, sym, refl, ap, ◌∙◌, subst, arith}
 use Rattle.std.specs.Borrow.{Bor}
 use Rattle.std.specs.Fn.{Mut, Called}
 use Rattle.std.specs.List.{list_any}
@@ -12,7 +12,7 @@ use Rattle.tables.specs.declared.refusal.Refusal.{Refusal}
 use Rattle.tables.specs.declared.refusal.Refusal.TheVariants.{Layout}
 use Rattle.text.specs.Numbers.{SpellsWithin, unsigned}
 use Rattle.text.specs.NumbersLemmas.{decimal_spelt, below_digits, few_digits, not_in_spelt}
-use Rattle.text.specs.Parts.{Free, FirstAt}
+use Rattle.text.specs.Parts.{Free}
 use Rattle.text.proofs.Cuts.{cut_once, no_first, free_none, free_cons}
 use Rattle.text.proofs.Rows.{Part, next_part}
 use Rattle.book.specs.declared.side.Side.{Side}

@@ -1,4 +1,4 @@
-use Rattle.std.proofs.Common.{◌≤◌, ap, ◌∙◌, subst, arith, w64, rules}
+use Rattle.std.proofs.Common.{ap, ◌∙◌, subst, arith, w64, rules}
 use Rattle.std.proofs.lemmas.Int.{to_z-of_z}
 use Rattle.worth.specs.Money.{money}
 use Rattle.worth.specs.Weeks.{weeks}

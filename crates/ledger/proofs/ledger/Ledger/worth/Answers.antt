@@ -1,4 +1,4 @@
-use Rattle.std.proofs.Common.{map, get_or, ap, ◌∙◌, subst, sym, arith}
+use Rattle.std.proofs.Common.{map, ap, ◌∙◌, subst, sym, arith}
 use Rattle.std.proofs.lemmas.List.{take_all, length-map}
 use Rattle.worth.specs.Kinds.{total}
 use Rattle.ledger.specs.Trades.{line_worth}

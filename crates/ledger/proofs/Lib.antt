@@ -1,4 +1,4 @@
 pub mod Sums
 pub mod Payoffs
-pub mod Cuts
+pub mod Spelt
 pub mod Lines

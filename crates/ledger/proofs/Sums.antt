@@ -1,21 +1,18 @@
 -- The trades of a ledger are sound, so that computing their worth is exact.
-use Rattle.std.proofs.Common.{◌≡◌, ℕ, zero, suc, ◌+◌, ◌*◌, ◌<◌, ◌≤◌, Bool, true, false, cond, not, ◌&&◌, eqb, List, [], ◌∷◌, ◌++◌, map, length, get_or, take, ℤ, pos, neg_ℤ, Ok, Err, Result, sym, refl, ap, ◌∙◌, subst, ap₂, suc-mul, mul-le-mul_left, arith, w64, SFits, to_z, of_z}
+use Rattle.std.proofs.Common.{◌≡◌, ℕ, zero, suc, ◌+◌, ◌*◌, ◌<◌, ◌≤◌, Bool, true, false, cond, not, ◌&&◌, ◌||◌, eqb, nat_lt, List, [], ◌∷◌, ◌++◌, map, length, get_or, take, ℤ, pos, neg_ℤ, Ok, Err, Result, sym, refl, ap, ◌∙◌, subst, ap₂, suc-mul, mul-le-mul_left, arith, w64, SFits, to_z, of_z}
 use borrow.Author.Differences.{ints}
-use Rattle.std.specs.List.{AllByRecursion}
+use Rattle.std.specs.List.{AllByRecursion, list_any}
 use Rattle.std.proofs.lemmas.List.Elements.{filter_more}
 use Rattle.std.proofs.ByRecursion.{All-get_or, All-push, all_kept_by}
 use Rattle.std.proofs.lemmas.List.Filters.{length-filter_both}
-use Rattle.std.proofs.lemmas.List.{get_or-map, length-map, append-nil}
+use Rattle.std.proofs.lemmas.List.{get_or-map, length-map, length_push, append-nil}
 use Rattle.std.proofs.lemmas.Int.{to_z-of_z}
 use Rattle.std.proofs.lemmas.Bool.Decides.{nat_tests}
 use Rattle.tables.specs.Tables.{Added}
 use Rattle.tables.specs.declared.refusal.Refusal.{Refusal}
 use Rattle.worth.specs.Kinds.{Ops, Laws, repeated, total, sizes}
 use Rattle.worth.proofs.Totals.{total_next, room_next}
-use Rattle.tables.proofs.Entries.{length_entries}
-use Rattle.ledger.specs.Ledgers.{listed}
 use Rattle.ledger.specs.Trades.{sound, all_sound, unit_price, unit_weeks, line_worth, lines_of}
-use Rattle.ledger.specs.declared.ledger.Ledger.{Ledger}
 use Rattle.book.specs.declared.side.Side.{Side}
 use Rattle.book.specs.declared.side.Side.TheVariants.{Give, Get}
 use Rattle.ledger.specs.declared.trade.Trade.{Trade}
@@ -75,10 +72,15 @@ module _ {W : Type 0} {o : Ops W} (laws : Laws o) where
 pub unit_is : {W : Type 0} (o : Ops W) (t : Trade) (u : W) (p : ℤ) (w : ℕ) → SFits w64 p → p ≡ unit_price t.side t.price → w ≡ unit_weeks t.side t.is_week → u ≡ o.unit (to_z w64 (of_z w64 p)) w → u ≡ o.unit (unit_price t.side t.price) (unit_weeks t.side t.is_week)
 unit_is o t u p w fits a b e = e ∙ ap (λ z. o.unit z w) (to_z-of_z w64 p fits) ∙ ap₂ (λ x y. o.unit x y) a b
 
--- after one trade more, or a refusal, all are sound
-pub still_sound : {n : ℕ} (before after : List Trade) (t : Trade) (r : Result (Unit {0}) Refusal) → Added n before after (t ∷ []) r → all_sound before ≡ true → sound t ≡ true → all_sound after ≡ true
-still_sound before after t (Ok x) a h s = subst (λ ts. all_sound ts ≡ true) (sym a.outcome) (sound_each (before ++ t ∷ []) (All-push (λ u. sound u ≡ true) before t (each_sound before h) s))
-still_sound before after t (Err e) a h s = subst (λ ts. all_sound ts ≡ true) (sym a.outcome) h
+-- what holds of the trades of every ledger
+abbrev pub Kept : List Trade → Type 0
+Kept ts = (all_sound ts ≡ true) × (length ts ≤ 256)
+
+-- after one trade more, or a refusal, it still does
+pub still_kept : {n : ℕ} (before after : List Trade) (t : Trade) (r : Result (Unit {0}) Refusal) → Added n before after (t ∷ []) r → all_sound before ≡ true → length before < 256 → sound t ≡ true → Kept after
+still_kept before after t (Ok x) a h room s =
+    subst Kept (sym a.outcome) (sound_each (before ++ t ∷ []) (All-push (λ u. sound u ≡ true) before t (each_sound before h) s), omega (arith, length_push before t))
+still_kept before after t (Err e) a h room s = subst Kept (sym a.outcome) (h, omega arith)
 
 -- a trade that was read from sound ones
 pub read_sound : (ts : List Trade) (i : ℕ) (d : Trade) → all_sound ts ≡ true → i < length ts → sound (get_or ts i d) ≡ true
@@ -102,12 +104,20 @@ skipped_next k ts i within e =
     let b : eqb (get_or ts i blank).offer k ≡ false = grind (arith, nat_tests) in
     filter_more (λ t. eqb t.offer k) ts i blank within ∙ ap (λ c. lines_of k (take i ts) ++ cond c (get_or ts i blank ∷ []) []) b ∙ append-nil (lines_of k (take i ts))
 
+above : (n : ℕ) → 0 < n → nat_lt 0 n ≡ true
+above n h = grind (arith, nat_tests)
+
+-- whether an offer has a line
+pub mentioned : (k : ℕ) (ts : List Trade) → list_any (λ t. eqb t.offer k) ts ≡ nat_lt 0 (length (lines_of k ts))
+mentioned k [] = refl
+mentioned k (t ∷ ts) = go (eqb t.offer k) (mentioned k ts)
+  where
+    go : (is : Bool) → list_any (λ t. eqb t.offer k) ts ≡ nat_lt 0 (length (lines_of k ts)) → (is || list_any (λ t. eqb t.offer k) ts) ≡ nat_lt 0 (length (cond is (t ∷ lines_of k ts) (lines_of k ts)))
+    go true more = sym (above (length (t ∷ lines_of k ts)) (omega arith))
+    go false more = more
+
 pub kept_few : (k : ℕ) (ts : List Trade) → length (lines_of k ts) ≤ length ts
 kept_few k ts = omega (arith, length-filter_both (λ t. eqb t.offer k) (λ t. not (eqb t.offer k)) (λ _. refl) ts)
-
--- a ledger has at most 256 trades
-pub few : (l : Ledger) → length (listed l) ≤ 256
-few l = omega (arith, length_entries l.trades, l.trades.few)
 
 module _ {W : Type 0} {o : Ops W} (laws : Laws o) where
   -- one line more in the sum over the lines

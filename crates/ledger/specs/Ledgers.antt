@@ -1,13 +1,8 @@
--- What a ledger holds, and what entering a trade does to it.
+-- What entering a trade in a ledger does.
 use Rattle.std.specs.Prelude.{◌≡◌, ◌<◌, ◌≤◌, List, [], ◌∷◌, ◌++◌, length, Result, MatchResult}
 use Rattle.tables.specs.Refusals.{Row, when, First, refusal}
 use Rattle.tables.specs.declared.refusal.Refusal.{Refusal}
-use Rattle.ledger.specs.declared.ledger.Ledger.{Ledger}
 use Rattle.ledger.specs.declared.trade.Trade.{Trade}
-
--- the trades of a ledger, in order
-abbrev pub listed : Ledger → List Trade
-listed l = l.trades
 
 -- why a trade is not entered after those: no such offer, no place left, too many units, too high a price
 abbrev pub refusals : List Trade → Trade → List Row

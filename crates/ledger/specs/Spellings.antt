@@ -1,5 +1,5 @@
 -- How a trade is spelt on a line: OFFER give|get PRICE UNITS cash|week.
-use Rattle.std.specs.Prelude.{◌≡◌, ℕ, ◌^◌, ◌<◌, Bool, true, false, List, ◌∷◌, ◌++◌, length, codes, decimal, ◌≢◌, slice_index}
+use Rattle.std.specs.Prelude.{◌≡◌, ℕ, ◌^◌, ◌<◌, Bool, true, false, List, ◌∷◌, ◌++◌, codes, decimal}
 use Rattle.book.specs.declared.side.Side.{Side}
 use Rattle.book.specs.declared.side.Side.TheVariants.{Give, Get}
 use Rattle.ledger.specs.declared.trade.Trade.{Trade}
@@ -28,11 +28,3 @@ pub record Spells (line : List ℕ) (t : Trade) : Type 0 where
 -- the word spells the number
 abbrev pub Number : List ℕ → ℕ → Type 0
 Number word n = (word ≡ decimal n) × (n < 10 ^ 9)
-
--- the row begins with the number and a space, and rest follows
-abbrev pub NumberFirst : List ℕ → ℕ → List ℕ → Type 0
-NumberFirst row n rest = (row ≡ decimal n ++ 32 ∷ rest) × (n < 10 ^ 9)
-
--- the byte does not stand in the list
-abbrev pub Without : ℕ → List ℕ → Type 0
-Without b xs = (k : ℕ) → k < length xs → slice_index xs k ≢ b

@@ -1,7 +1,5 @@
-ghost use Rattle.std.specs.Prelude.{◌≡◌, true};
-ghost use Rattle.ledger.specs.Trades.{all_sound};
-
 use super::trade::Trade;
+use std::marker::Model;
 use tables::table::Table;
 
 mod calls;
@@ -10,5 +8,17 @@ mod calls;
 #[derive(Drop)]
 pub struct Ledger {
     trades: Table<Trade, 256>,
-    ghost sound: { all_sound trades ≡ true },
+}
+
+// Contracts see a ledger as the list of its trades.
+impl Model for Ledger {
+    ghost use Rattle.std.specs.Prelude.{◌≡◌, ◌≤◌, true, List, length};
+    ghost use Rattle.ledger.specs.Trades.{all_sound};
+    ghost use Rattle.ledger.specs.declared.trade.Trade.{Trade as Trades};
+
+    ghost Value = { List Trades };
+
+    ghost view = { λ l. l.trades };
+
+    ghost invariant = { λ l. (all_sound l.trades ≡ true) × (length l.trades ≤ 256) };
 }

@@ -1,77 +1,56 @@
-ghost use Rattle.std.specs.Prelude.{◌≡◌, ◌<◌, [], ◌∷◌, ◌++◌, map, length, MatchResult};
-ghost use Rattle.tables.specs.declared.refusal.Refusal.TheVariants.{Layout as Departs};
-ghost use Rattle.ledger.specs.Ledgers.{listed};
+ghost use Rattle.std.specs.Prelude.{◌≡◌, [], ◌∷◌, ◌++◌, map, MatchResult};
+ghost use Rattle.text.specs.Numbers.{Reads};
 ghost use Rattle.ledger.specs.Readings.{lines, Refused as Barred, Damaged};
 ghost use Rattle.ledger.specs.Spellings.{spelling, Spells};
 ghost use Rattle.ledger.specs.declared.trade.Trade.{Trade as Trades};
 
 use super::ledger::Ledger;
 use super::trade::Trade;
-use super::words::{cut, first_number, first_side, is_week};
+use super::words::{is_week, number, side};
 use tables::refusal::Refusal;
-
-// Why a text gives no ledger: what is wrong, and on which line, counted from 1.
-#[derive(Clone, Copy)]
-pub struct Damage {
-    pub refusal: Refusal,
-    pub line: u32,
-}
+use text::fault::{Fault, at_line};
 
 // The trade that a line spells.
 pub fn read_trade(line: &[u8]) -> Result<Trade, Refusal>
-    ensures { MatchResult result (λ t. Spells line.now t) (λ e. (e ≡ Departs) × ((t : Trades) → Spells line.now t → ⊥)) }
+    ensures { Reads (Spells line.now) result }
 {
-    let (offer, rest) = first_number(line)?;
-    let (side, rest) = first_side(rest)?;
-    let (price, rest) = first_number(rest)?;
-    let (units, rest) = first_number(rest)?;
-    let is_week = is_week(rest)?;
-    Ok(Trade {
-        offer,
-        side,
-        price,
-        units,
-        is_week,
-    })
-}
-
-// The first line, without the byte 10 that ends it, and what follows.
-fn first_line(text: &[u8]) -> (&[u8], &[u8])
-    requires { 0 < length text.now }
-    ensures split { lines text.now ≡ result.0.now ∷ lines result.1.now }
-    ensures shorter { length result.1.now < length text.now }
-{
-    match cut(text, b'\n') {
-        Some((line, rest)) => (line, rest),
-        None => (text, &[]),
+    let mut words = line.split(|b| *b == b' ');
+    let offer = number(words.next().ok_or(Refusal::Layout)?)?;
+    let side = side(words.next().ok_or(Refusal::Layout)?)?;
+    let price = number(words.next().ok_or(Refusal::Layout)?)?;
+    let units = number(words.next().ok_or(Refusal::Layout)?)?;
+    let is_week = is_week(words.next().ok_or(Refusal::Layout)?)?;
+    match words.next() {
+        None => Ok(Trade {
+            offer,
+            side,
+            price,
+            units,
+            is_week,
+        }),
+        Some(_) => Err(Refusal::Layout),
     }
 }
 
 // Enters the trade that the line spells.
 fn enter(ledger: &mut Ledger, line: &[u8]) -> Result<(), Refusal>
     ensures { MatchResult result
-        (λ _. (t : Trades) × Spells line.now t × (listed ledger.new ≡ listed ledger.old ++ t ∷ []))
-        (λ e. Barred (listed ledger.old) line.now e × (listed ledger.new ≡ listed ledger.old)) }
+        (λ _. (t : Trades) × Spells line.now t × (ledger.new ≡ ledger.old ++ t ∷ []))
+        (λ e. Barred ledger.old line.now e × (ledger.new ≡ ledger.old)) }
 {
-    let trade = read_trade(line)?;
-    ledger.add(trade)
+    ledger.add(read_trade(line)?)
 }
 
 // The ledger of the trades that the lines of a text spell.
-pub fn read_ledger(text: &[u8]) -> Result<Ledger, Damage>
-    ensures { MatchResult result (λ l. lines text.now ≡ map spelling (listed l)) (λ d. Damaged text.now d.refusal d.line) }
+pub fn read_ledger(text: &[u8]) -> Result<Ledger, Fault>
+    ensures { MatchResult result (λ l. lines text.now ≡ map spelling l) (λ f. Damaged text.now f.refusal f.line) }
 {
     let mut ledger = Ledger::new();
-    let mut rest = text;
-    while rest.len() > 0 {
-        let (line, after) = first_line(rest);
-        if let Err(refusal) = enter(&mut ledger, line) {
-            return Err(Damage {
-                refusal,
-                line: ledger.len() as u32 + 1,
-            });
-        }
-        rest = after;
+    for line in text.split_inclusive(|b| *b == b'\n') {
+        // the last line may lack its end
+        let line = line.strip_suffix(b"\n").unwrap_or(line);
+        let number = ledger.len() as u32 + 1;
+        at_line(number, enter(&mut ledger, line))?;
     }
     Ok(ledger)
 }

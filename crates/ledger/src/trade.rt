@@ -5,7 +5,7 @@ use book::side::Side;
 use worth::kind::Worth;
 
 // One traded line: units of an item that an offer gives or gets, at a price in cents for each.
-#[derive(Clone, Copy)]
+#[derive(Clone, Copy, Debug, PartialEq, Eq)]
 pub struct Trade {
     pub offer: u32,
     pub side: Side,
@@ -29,7 +29,7 @@ impl Trade {
     {
         match self.side {
             Side::Give => 0,
-            Side::Get => { if self.is_week { 1 } else { 0 } }
+            Side::Get => u32::from(self.is_week),
         }
     }
 

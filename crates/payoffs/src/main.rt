@@ -1,10 +1,8 @@
 // Reads the traded lines of an allotment, and prints each offer's payoff and what all are worth.
 #![tactic(auto)]
 
-use anyhow::anyhow;
 use ledger::ledger::Ledger;
-use ledger::reading::{Damage, read_ledger};
-use std::alloc::{AllocError, Global};
+use ledger::reading::read_ledger;
 use std::io::Read;
 use worth::lexicographic::Lexicographic;
 use worth::money::Money;
@@ -20,10 +18,7 @@ fn main(rt: HostRuntime) -> anyhow::Result<()> {
 fn run(rt: &HostRuntime) -> anyhow::Result<()> {
     let mut text = Vec::new(rt.alloc());
     rt.stdin().read_to_end(&mut text)?;
-    match read_ledger(&text) {
-        Ok(ledger) => print_payoffs(rt, &ledger),
-        Err(damage) => Err(anyhow!(message(rt.alloc(), damage)?)),
-    }
+    print_payoffs(rt, &read_ledger(&text)?)
 }
 
 // A line for each offer that trades, in order of number, and a line for each kind of worth.
@@ -41,12 +36,4 @@ fn print_payoffs(rt: &HostRuntime, ledger: &Ledger) -> anyhow::Result<()> {
     let weeks = both.second.count;
     println!(rt; "money-then-weeks {cents} {weeks}")?;
     Ok(())
-}
-
-// Which line is damaged, and the number and the name of its refusal.
-fn message(heap: Global, damage: Damage) -> Result<String, AllocError> {
-    let line = damage.line;
-    let number = damage.refusal.number();
-    let name = damage.refusal.name();
-    format!(in heap; "line {line}: refused, {number}: {name}")
 }

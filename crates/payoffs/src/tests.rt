@@ -1,56 +1,50 @@
+use book::side::Side;
 use ledger::ledger::Ledger;
 use ledger::reading::read_ledger;
-use book::side::Side;
 use ledger::trade::Trade;
 use std::test::Fail;
 
-fn damage_of(text: &[u8]) -> Option<(u32, u32)> {
-    match read_ledger(text) {
-        Ok(_) => None,
-        Err(damage) => Some((damage.line, damage.refusal.number())),
-    }
+fn fault_of(text: &[u8]) -> Option<(u32, u32)> {
+    let fault = read_ledger(text).err()?;
+    Some((fault.line, fault.refusal.number()))
 }
 
 #[test]
 fn two_offers_trade(rt: HostRuntime) -> Result<(), Fail> {
     let text = b"4 give 60 20 week\n4 get 120 20 week\n3 give 240 20 week\n3 get 0 20 cash\n";
-    match read_ledger(text) {
-        Ok(ledger) => {
-            assert_eq!(rt; ledger.payoff(4), (1200, 20));
-            assert_eq!(rt; ledger.payoff(3), (-4800, 0));
-            assert_eq!(rt; ledger.payoff(5), (0, 0));
-            assert!(rt; !ledger.mentions(5));
-            assert_eq!(rt; ledger.money(), -3600);
-            Ok(())
-        }
-        Err(_) => Err(Fail::new("refused")),
-    }
+    let ledger = read_ledger(text)?;
+    assert_eq!(rt; ledger.payoff(4), (1200, 20));
+    assert_eq!(rt; ledger.payoff(3), (-4800, 0));
+    assert_eq!(rt; ledger.payoff(5), (0, 0));
+    assert!(rt; !ledger.mentions(5));
+    assert_eq!(rt; ledger.money(), -3600);
+    Ok(())
 }
 
 #[test]
 fn the_last_line_may_lack_its_end(rt: HostRuntime) {
-    assert_eq!(rt; damage_of(b""), None);
-    assert_eq!(rt; damage_of(b"0 give 1 1 cash"), None);
-    assert_eq!(rt; damage_of(b"0 give 1 1 cash\n\n"), Some((2, 13)));
+    assert_eq!(rt; fault_of(b""), None);
+    assert_eq!(rt; fault_of(b"0 give 1 1 cash"), None);
+    assert_eq!(rt; fault_of(b"0 give 1 1 cash\n\n"), Some((2, 13)));
 }
 
 #[test]
 fn damaged_lines_are_named(rt: HostRuntime) {
     assert_eq!(rt;
-        damage_of(b"0 give 1 1 cash\n0 take 1 1 cash\n"),
+        fault_of(b"0 give 1 1 cash\n0 take 1 1 cash\n"),
         Some((2, 13))
     );
-    assert_eq!(rt; damage_of(b"0 give 1 1  cash"), Some((1, 13)));
-    assert_eq!(rt; damage_of(b"0 give 01 1 cash"), Some((1, 13)));
+    assert_eq!(rt; fault_of(b"0 give 1 1  cash"), Some((1, 13)));
+    assert_eq!(rt; fault_of(b"0 give 01 1 cash"), Some((1, 13)));
     assert_eq!(rt;
-        damage_of(b"0 give 1 1 cash\n64 get 1 1 week\n0 no"),
+        fault_of(b"0 give 1 1 cash\n64 get 1 1 week\n0 no"),
         Some((2, 1))
     );
     assert_eq!(rt;
-        damage_of(b"63 get 1000000 1000 week\n63 get 1 1001 week"),
+        fault_of(b"63 get 1000000 1000 week\n63 get 1 1001 week"),
         Some((2, 3))
     );
-    assert_eq!(rt; damage_of(b"63 get 1000001 1000 week"), Some((1, 4)));
+    assert_eq!(rt; fault_of(b"63 get 1000001 1000 week"), Some((1, 4)));
 }
 
 #[test]

@@ -1,10 +1,10 @@
-ghost use Rattle.std.specs.Prelude.{◌≡◌, ◌≤◌, [], ◌∷◌, length, nat_lt};
-ghost use Rattle.ledger.specs.Ledgers.{listed, Entered};
-ghost use Rattle.ledger.specs.Trades.{weeks_got, lines_of, worth_of, balance, payoff_of, weeks_of, payoffs_below};
+ghost use Rattle.std.specs.Prelude.{◌≡◌, ◌≤◌, true, [], ◌∷◌, length, nat_lt};
+ghost use Rattle.ledger.specs.Ledgers.{Entered};
+ghost use Rattle.ledger.specs.Trades.{all_sound, weeks_got, lines_of, worth_of, balance, payoff_of, weeks_of, payoffs_below};
 
 use super::super::trade::Trade;
-use book::side::Side;
 use super::Ledger;
+use book::side::Side;
 use tables::refusal::Refusal;
 use tables::table::Table;
 use worth::kind::Worth;
@@ -12,6 +12,7 @@ use worth::lexicographic::Lexicographic;
 use worth::money::Money;
 use worth::weeks::Weeks;
 
+// It only lies in the unused cells. `Default` is no plainer: no side of an offer is the one to begin with.
 const FILLER: Trade = Trade {
     offer: 0,
     side: Side::Give,
@@ -23,23 +24,25 @@ const FILLER: Trade = Trade {
 impl Ledger {
     // A ledger without trades.
     pub fn new() -> Ledger
-        ensures { listed result ≡ [] }
+        ensures { result ≡ [] }
     {
         Ledger {
             trades: Table::new(FILLER),
         }
     }
 
+    // How many trades there are, all of them within the bounds.
     pub(crate) fn len(&self) -> usize
-        ensures count { result ≡ length (listed self.now) }
+        ensures count { result ≡ length self.now }
         ensures bound { result ≤ 256 }
+        ensures sound { all_sound self.now ≡ true }
     {
         self.trades.len()
     }
 
     // Enters the trade at the end.
     pub fn add(&mut self, trade: Trade) -> Result<(), Refusal>
-        ensures { Entered (listed self.old) (listed self.new) trade result }
+        ensures { Entered self.old self.new trade result }
     {
         if trade.offer >= 64 {
             return Err(Refusal::Unknown);
@@ -58,7 +61,7 @@ impl Ledger {
 
     // The lines of one offer, as a ledger of their own.
     fn lines_of(&self, offer: u32) -> Ledger
-        ensures { listed result ≡ lines_of offer (listed self.now) }
+        ensures { result ≡ lines_of offer self.now }
     {
         let mut lines: Table<Trade, 256> = Table::new(FILLER);
         for trade in self.trades.as_slice() {
@@ -71,14 +74,14 @@ impl Ledger {
 
     // Whether the offer has a line.
     pub fn mentions(&self, offer: u32) -> bool
-        ensures { result ≡ nat_lt 0 (length (lines_of offer (listed self.now))) }
+        ensures { result ≡ nat_lt 0 (length (lines_of offer self.now)) }
     {
-        self.lines_of(offer).len() > 0
+        self.trades.as_slice().iter().any(|t| t.offer == offer)
     }
 
     // Each trade's unit worth taken units times, summed.
     pub fn worth<W: Worth>(&self) -> W
-        ensures { result ≡ worth_of W.Worth.ops (listed self.now) }
+        ensures { result ≡ worth_of W.Worth.ops self.now }
     {
         let mut sum = W::none();
         for trade in self.trades.as_slice() {
@@ -89,30 +92,34 @@ impl Ledger {
 
     // What is got less what is given, in cents, and the weeks got.
     fn totals(&self) -> (i64, u32)
-        ensures money { result.0 ≡ balance (listed self.now) }
-        ensures weeks { result.1 ≡ weeks_got (listed self.now) }
+        ensures money { result.0 ≡ balance self.now }
+        ensures weeks { result.1 ≡ weeks_got self.now }
     {
+        // the bounds are known where the field is looked at
+        let _ = &self.trades;
         let worth: Lexicographic<Money, Weeks> = self.worth();
         (worth.first.cents, worth.second.count as u32)
     }
 
     // What the offer's lines come to in cents, and the weeks that it gets.
     pub fn payoff(&self, offer: u32) -> (i64, u32)
-        ensures money { result.0 ≡ payoff_of offer (listed self.now) }
-        ensures weeks { result.1 ≡ weeks_of offer (listed self.now) }
+        ensures money { result.0 ≡ payoff_of offer self.now }
+        ensures weeks { result.1 ≡ weeks_of offer self.now }
     {
         self.lines_of(offer).totals()
     }
 
     fn by_money(&self) -> Money
-        ensures { result.cents ≡ payoffs_below 64 (listed self.now) }
+        ensures { result.cents ≡ payoffs_below 64 self.now }
     {
+        // the bounds are known where the field is looked at
+        let _ = &self.trades;
         self.worth()
     }
 
     // The worth of all by money, in cents: the sum of the offers' payoffs.
     pub fn money(&self) -> i64
-        ensures { result ≡ payoffs_below 64 (listed self.now) }
+        ensures { result ≡ payoffs_below 64 self.now }
     {
         self.by_money().cents
     }

@@ -1,35 +1,31 @@
-use Rattle.std.proofs.Common.{◌<◌, map, length, get_or, ap, ◌∙◌, arith}
+use Rattle.std.proofs.Common.{map, ap, ◌∙◌, subst, sym, arith}
 use Rattle.std.proofs.lemmas.List.{take_all, length-map}
 use Rattle.worth.specs.Kinds.{total}
-use Rattle.ledger.specs.Ledgers.{listed}
 use Rattle.ledger.specs.Trades.{line_worth}
-use Rattle.ledger.proofs.Sums.{read_sound, blank, few, sum_next, sum_room}
+use Rattle.ledger.proofs.Sums.{Kept, read_sound, blank, sum_next, sum_room}
 use Rattle.ledger.proofs.ledger.Ledger.worth.Goals as goal
 
 pub worth-requires : goal.worth-requires
 worth-requires g c =
-    let e = c.as_slice-trade-items.ensures in
-    let h = c.args.self.now.sound in
-    read_sound c.as_slice-trade-items.result.now c.loop-trade.trade-index blank (rw e h) c.loop-trade-test.true
+    let kept : Kept c.as_slice-trade-items.result.now = subst Kept (sym c.as_slice-trade-items.ensures) c.self.invariant in
+    read_sound _ c.loop-trade.trade-index blank kept.0 c.loop-trade-test.true
 
 pub plus-sum-requires : goal.plus-sum-requires
 plus-sum-requires g c =
     let o = g.W.Worth.ops in
-    let e = c.as_slice-trade-items.ensures in
-    let within : c.loop-trade.trade-index < length (listed c.args.self.now) = omega (arith, ap length e) in
-    let w = c.worth.ensures ∙ ap (λ xs. line_worth o (get_or xs c.loop-trade.trade-index blank)) e in
-    omega (arith, ap o.size w, sum_room g.met.W.Worth.lawful (listed c.args.self.now) c.loop-trade.trade-index blank c.loop-trade.sum c.args.self.now.sound (few c.args.self.now) within c.loop-trade.invariant)
+    let ts = c.as_slice-trade-items.result.now in
+    let kept : Kept ts = subst Kept (sym c.as_slice-trade-items.ensures) c.self.invariant in
+    omega (arith, ap o.size c.worth.ensures, sum_room g.met.W.Worth.lawful ts c.loop-trade.trade-index blank c.loop-trade.sum kept.0 kept.1 c.loop-trade-test.true c.loop-trade.invariant)
 
 pub loop-trade-preserved : goal.loop-trade-preserved
 loop-trade-preserved g c =
     let o = g.W.Worth.ops in
-    let e = c.as_slice-trade-items.ensures in
-    let within : c.loop-trade.trade-index < length (listed c.args.self.now) = omega (arith, ap length e) in
-    let w = c.worth.ensures ∙ ap (λ xs. line_worth o (get_or xs c.loop-trade.trade-index blank)) e in
-    sum_next g.met.W.Worth.lawful (listed c.args.self.now) c.loop-trade.trade-index blank c.loop-trade.sum _ within c.loop-trade.invariant (c.plus-sum.ensures ∙ ap (o.plus c.loop-trade.sum) w)
+    sum_next g.met.W.Worth.lawful c.as_slice-trade-items.result.now c.loop-trade.trade-index blank c.loop-trade.sum _ c.loop-trade-test.true c.loop-trade.invariant (c.plus-sum.ensures ∙ ap (o.plus c.loop-trade.sum) c.worth.ensures)
 
 pub returns : goal.returns
 returns g c =
     let o = g.W.Worth.ops in
-    let ts = listed c.args.self.now in
-    c.loop-trade.invariant ∙ ap (total o) (take_all c.loop-trade.trade-index (map (line_worth o) ts) (omega (arith, length-map ts (line_worth o), ap length c.as_slice-trade-items.ensures, c.loop-trade-test.false)))
+    let ts = c.as_slice-trade-items.result.now in
+    c.loop-trade.invariant
+    ∙ ap (total o) (take_all c.loop-trade.trade-index (map (line_worth o) ts) (omega (arith, length-map ts (line_worth o), c.loop-trade-test.false)))
+    ∙ ap (λ xs. total o (map (line_worth o) xs)) (c.as_slice-trade-items.ensures ∙ c.self.view_is)

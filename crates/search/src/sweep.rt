@@ -70,12 +70,10 @@ impl<'a, W: Worth> Search<'a, W> {
         if net.room(step) == 0 {
             return None;
         }
-        let offered = self.potentials[net.tail(step)].plus(net.gain::<W>(step));
-        if self.potentials[net.head(step)].is_less(offered) {
-            Some(offered)
-        } else {
-            None
-        }
+        let here = self.potentials[net.tail(step)];
+        let there = self.potentials[net.head(step)];
+        let offered = here.plus(net.gain::<W>(step));
+        there.is_less(offered).then_some(offered)
     }
 
     // Raises the potential at a step's head to what the step offers, if that is more: whether it rose,

@@ -12,6 +12,7 @@ impl OpenRound {
         ensures outcome { book result ≡ fresh }
         ensures law { RoundLaw }
     {
+        // a name has no default, so cash lies in the unused cells
         let cash = Name::cash();
         let mut items = Table::new(cash);
         let _ = items.push(cash);

@@ -12,5 +12,5 @@ invariant_of-result g c =
     let b = book c.args.self in
     record { drawn = ∥∥₁_map c.args.self.sound (λ s. subst (Carries b) (sym c.arcs-arcs.ensures) (carries_none b s)) }
 
-pub returns : goal.returns
-returns g c = record { outcome = record { book = refl; net = ap (λ xs. record { nodes = nodes (book c.args.self); arcs = xs }) c.arcs-arcs.ensures }; law = law_holds g.met.W.Worth.lawful }
+pub returns-clause-law : goal.returns-clause-law
+returns-clause-law g c = law_holds g.met.W.Worth.lawful

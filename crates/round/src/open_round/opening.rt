@@ -15,7 +15,7 @@ impl OpenRound {
         // a name has no default, so cash lies in the unused cells
         let cash = Name::cash();
         let mut items = Table::new(cash);
-        let _ = items.push(cash);
+        items.push(cash).unwrap();
         OpenRound {
             items,
             members: Table::new(cash),

@@ -1,6 +1,5 @@
-use Rattle.std.proofs.Common.{sym, refl, ap, subst}
+use Rattle.std.proofs.Common.{sym, subst}
 use mathlib.Core.Logic.{∥∥₁_map}
-use Rattle.book.specs.Arcs.{nodes}
 use Rattle.round.specs.Carried.{Carries}
 use Rattle.round.specs.Rounds.{book}
 use Rattle.round.proofs.Pushed.{carries_none}

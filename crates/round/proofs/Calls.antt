@@ -1,5 +1,5 @@
 -- What a call does to one table is what it does to the book.
-use Rattle.std.proofs.Common.{◌≡◌, ℕ, ◌+◌, ◌<◌, ◌≤◌, true, List, [], ◌∷◌, ◌++◌, map, length, get_or, Some, None, Ok, Err, Result, sym, refl, ap, ◌∙◌, arith}
+use Rattle.std.proofs.Common.{◌≡◌, ℕ, ◌+◌, ◌<◌, ◌≤◌, true, List, [], ◌∷◌, ◌++◌, map, length, get_or, Some, None, Ok, Err, Result, IsOk, sym, refl, ap, ◌∙◌, arith}
 use Rattle.std.proofs.lemmas.List.{length-map, length-append}
 use Rattle.tables.specs.Refusals.{number, First}
 use Rattle.tables.specs.Tables.{Replaced, Added}
@@ -19,6 +19,11 @@ use Rattle.round.specs.declared.entry.Entry.{Entry}
 use Rattle.terms.proofs.Spots.{no_none, spot_some}
 use Rattle.round.proofs.Rows.{entry, count_rows, grown_offers, grown_rows, stopped, offer_at, offers_stopped}
 use Rattle.round.proofs.Sounds.{room}
+
+-- where there is room, nothing is refused
+pub went_in : {X : Type 0} (n : ℕ) (before after more : List X) (r : Result (Unit {0}) Refusal) → Added n before after more r → length before + length more ≤ n → IsOk r
+went_in n before after more (Ok u) a h = refl
+went_in n before after more (Err e) a h = absurd (no_none (number e) (a.refused.1 (λ p. omega arith)))
 
 pub item_listed : (b : Book) (xs : List (List ℕ)) (s : List ℕ) (r : Result ℕ Refusal) → Listed 16 b.items xs s r → TakesItem b (with_items b xs) s r
 item_listed b xs s (Ok k) t = record { refused = t.refused; outcome = (t.outcome.0, ap (with_items b) t.outcome.1) }
@@ -58,29 +63,29 @@ module _ (b : Book) (ls : List Line) (es : List Entry) (k : ℕ) (e : Entry) (l 
   }
   entry_stopped es' (Err x) z t = absurd (no_none (number x) (t.refused.1 (λ p. omega arith)))
 
--- an offer whose lines and entry are put at the ends of their tables
-module _ (b : Book) (es es' : List Entry) (ls ls1 ls2 give get : List Line) (m l k : ℕ) (r1 r2 r3 : Result (Unit {0}) Refusal)
-    (h : in_rows 0 es (length ls) ≡ true) (ek : k ≡ length ls)
-    (f : First (offering (with_offers b (map (offer_of ls) es)) (made m l give get)) None)
-    (a1 : Added 256 ls ls1 give r1) (a2 : Added 256 ls1 ls2 get r2) (a3 : Added 64 es es' (entry m l k give get ∷ []) r3) where
-  fits : (length es < 64) × (length ls + (length give + length get) ≤ 256)
+-- an offer that nothing speaks against has room
+module _ (b : Book) (es : List Entry) (ls give get : List Line) (m l : ℕ) (h : in_rows 0 es (length ls) ≡ true) (f : First (offering (with_offers b (map (offer_of ls) es)) (made m l give get)) None) where
+  pub fits : (length es < 64) × (length ls + (length give + length get) ≤ 256)
   fits =
       let rm = room (with_offers b (map (offer_of ls) es)) (made m l give get) f in
       let c = count_rows 0 es ls h in
       (omega (arith, rm.0, length-map es (offer_of ls)), omega (arith, rm.1))
 
-  e1 : ls1 ≡ ls ++ give
-  e1 = grew 256 ls ls1 give r1 a1 (omega (arith, fits.1))
+  -- its lines and its entry are put at the ends of their tables
+  module _ (es' : List Entry) (ls1 ls2 : List Line) (k : ℕ) (r1 r2 r3 : Result (Unit {0}) Refusal) (ek : k ≡ length ls)
+      (a1 : Added 256 ls ls1 give r1) (a2 : Added 256 ls1 ls2 get r2) (a3 : Added 64 es es' (entry m l k give get ∷ []) r3) where
+    e1 : ls1 ≡ ls ++ give
+    e1 = grew 256 ls ls1 give r1 a1 (omega (arith, fits.1))
 
-  e2 : ls2 ≡ ls1 ++ get
-  e2 = grew 256 ls1 ls2 get r2 a2 (omega (arith, fits.1, ap length e1, length-append ls give))
+    e2 : ls2 ≡ ls1 ++ get
+    e2 = grew 256 ls1 ls2 get r2 a2 (omega (arith, fits.1, ap length e1, length-append ls give))
 
-  e3 : es' ≡ es ++ entry m l k give get ∷ []
-  e3 = grew 64 es es' (entry m l k give get ∷ []) r3 a3 (omega (arith, fits.0))
+    e3 : es' ≡ es ++ entry m l k give get ∷ []
+    e3 = grew 64 es es' (entry m l k give get ∷ []) r3 a3 (omega (arith, fits.0))
 
-  -- the lines still stand one behind the other, and the offer comes to the end
-  pub offer_taken : (n : ℕ) → n ≡ length es → (in_rows 0 es' (length ls2) ≡ true) × TakesOffer (with_offers b (map (offer_of ls) es)) (with_offers b (map (offer_of ls2) es')) (made m l give get) (Ok n)
-  offer_taken n en = (
-    grown_rows es es' ls ls1 ls2 give get m l k h ek e1 e2 e3,
-    record { refused = f; outcome = (en ∙ sym (length-map es (offer_of ls)), ap (with_offers b) (grown_offers es es' ls ls1 ls2 give get m l k h ek e1 e2 e3)) },
-  )
+    -- the lines still stand one behind the other, and the offer comes to the end
+    pub offer_taken : (n : ℕ) → n ≡ length es → (in_rows 0 es' (length ls2) ≡ true) × TakesOffer (with_offers b (map (offer_of ls) es)) (with_offers b (map (offer_of ls2) es')) (made m l give get) (Ok n)
+    offer_taken n en = (
+      grown_rows es es' ls ls1 ls2 give get m l k h ek e1 e2 e3,
+      record { refused = f; outcome = (en ∙ sym (length-map es (offer_of ls)), ap (with_offers b) (grown_offers es es' ls ls1 ls2 give get m l k h ek e1 e2 e3)) },
+    )

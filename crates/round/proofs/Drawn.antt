@@ -17,15 +17,18 @@ use Rattle.round.specs.declared.entry.Entry.{Entry}
 use Rattle.round.proofs.Rows.{rows_le, gives_length, gets_length}
 
 -- one more arc
-one_more : (start before drawn after : List Arc) (a x : Arc) (r : Result (Unit {0}) Refusal) → before ≡ start ++ drawn → length start + length drawn < 448 → a ≡ x → Added 448 before after (a ∷ []) r → after ≡ start ++ (drawn ++ x ∷ [])
-one_more start before drawn after a x r e l is added =
-    grew 448 before after (a ∷ []) r added (omega (arith, ap length e, length-append start drawn)) ∙ ap₂ (λ xs y. xs ++ y ∷ []) e is ∙ append_assoc start drawn (x ∷ [])
+one_more : (start before drawn after : List Arc) (a x : Arc) (r : Result (Unit {0}) Refusal) → before ≡ start ++ drawn → length before < 448 → a ≡ x → Added 448 before after (a ∷ []) r → after ≡ start ++ (drawn ++ x ∷ [])
+one_more start before drawn after a x r e l is added = grew 448 before after (a ∷ []) r added (omega arith) ∙ ap₂ (λ xs y. xs ++ y ∷ []) e is ∙ append_assoc start drawn (x ∷ [])
 
--- the arc of one more line
-pub line_more : (f : Line → Arc) (ls : List Line) (i : ℕ) (d : Line) (start before after : List Arc) (a : Arc) (r : Result (Unit {0}) Refusal) → i < length ls → length start + length ls ≤ 448 → before ≡ start ++ map f (take i ls) → a ≡ f (get_or ls i d) → Added 448 before after (a ∷ []) r → after ≡ start ++ map f (take (i + 1) ls)
-line_more f ls i d start before after a r l room e is added =
-    one_more start before (map f (take i ls)) after a (f (get_or ls i d)) r e (omega (arith, length-map (take i ls) f, length-take-le i ls (omega arith))) is added
-    ∙ ap (λ ys. start ++ ys) (sym (map_more f ls i d l))
+module _ (f : Line → Arc) (ls : List Line) (i : ℕ) (start before : List Arc) (l : i < length ls) (room : length start + length ls ≤ 448) (e : before ≡ start ++ map f (take i ls)) where
+  -- there is room for the arc of one more line
+  pub line_room : length before < 448
+  line_room = omega (arith, ap length e, length-append start (map f (take i ls)), length-map (take i ls) f, length-take-le i ls (omega arith))
+
+  pub line_more : (d : Line) (after : List Arc) (a : Arc) (r : Result (Unit {0}) Refusal) → a ≡ f (get_or ls i d) → Added 448 before after (a ∷ []) r → after ≡ start ++ map f (take (i + 1) ls)
+  line_more d after a r is added =
+      one_more start before (map f (take i ls)) after a (f (get_or ls i d)) r e line_room is added
+      ∙ ap (λ ys. start ++ ys) (sym (map_more f ls i d l))
 
 -- the lines of a side with the same flow on each
 pub map_with_same : {X U Y : Type 0} (f : X → U → Y) (xs : List X) (z : U) → map_with f xs (λ k. z) ≡ map (λ x. f x z) xs
@@ -38,20 +41,29 @@ holding_push q [] h n e =
     ap (λ m. holding_arc m h 0 ∷ []) f
 holding_push q (x ∷ hs) h n e = ap (λ ys. holding_arc q x 0 ∷ ys) (holding_push (q + 1) hs h n (omega arith))
 
--- the arc of one more holding
-pub holding_more : (q : ℕ) (hs : List Holding) (k : ℕ) (start before after : List Arc) (a : Arc) (r : Result (Unit {0}) Refusal) → k < length hs → length start + length hs ≤ 448 → before ≡ start ++ holding_arcs q (take k hs) no_flows.held → a ≡ holding_arc (q + k) (get_or hs k no_holding) 0 → Added 448 before after (a ∷ []) r → after ≡ start ++ holding_arcs q (take (k + 1) hs) no_flows.held
-holding_more q hs k start before after a r l room e is added =
-    let long = length-take-le k hs (omega arith) in
-    one_more start before (holding_arcs q (take k hs) no_flows.held) after a (holding_arc (q + k) (get_or hs k no_holding) 0) r e (omega (arith, length_held q (take k hs) no_flows.held)) is added
-    ∙ ap (λ ys. start ++ ys) (sym (ap (λ xs. holding_arcs q xs no_flows.held) (take_more hs k no_holding l) ∙ holding_push q (take k hs) (get_or hs k no_holding) (q + k) (omega arith)))
+module _ (q : ℕ) (hs : List Holding) (k : ℕ) (start before : List Arc) (l : k < length hs) (room : length start + length hs ≤ 448) (e : before ≡ start ++ holding_arcs q (take k hs) no_flows.held) where
+  -- there is room for the arc of one more holding
+  pub holding_room : length before < 448
+  holding_room = omega (arith, ap length e, length-append start (holding_arcs q (take k hs) no_flows.held), length_held q (take k hs) no_flows.held, length-take-le k hs (omega arith))
 
--- an offer's own arc behind those of its give lines
-pub own_more : (f : Line → Arc) (give : List Line) (i : ℕ) (start before after : List Arc) (a own : Arc) (r : Result (Unit {0}) Refusal) → length give ≤ i → length start + length give < 448 → before ≡ start ++ map f (take i give) → a ≡ own → Added 448 before after (a ∷ []) r → (after ≡ start ++ (map f give ++ own ∷ [])) × (length after ≡ length start + (length give + 1))
-own_more f give i start before after a own r end room e is added =
-    let gave = e ∙ ap (λ ls. start ++ map f ls) (take_all i give end) in
-    let long = length-map give f in
-    let grown = one_more start before (map f give) after a own r gave (omega arith) is added in
-    (grown, omega (arith, ap length grown, length-append start (map f give ++ own ∷ []), length_push (map f give) own))
+  pub holding_more : (after : List Arc) (a : Arc) (r : Result (Unit {0}) Refusal) → a ≡ holding_arc (q + k) (get_or hs k no_holding) 0 → Added 448 before after (a ∷ []) r → after ≡ start ++ holding_arcs q (take (k + 1) hs) no_flows.held
+  holding_more after a r is added =
+      let long = length-take-le k hs (omega arith) in
+      one_more start before (holding_arcs q (take k hs) no_flows.held) after a (holding_arc (q + k) (get_or hs k no_holding) 0) r e holding_room is added
+      ∙ ap (λ ys. start ++ ys) (sym (ap (λ xs. holding_arcs q xs no_flows.held) (take_more hs k no_holding l) ∙ holding_push q (take k hs) (get_or hs k no_holding) (q + k) (omega arith)))
+
+module _ (f : Line → Arc) (give : List Line) (i : ℕ) (start before : List Arc) (end : length give ≤ i) (room : length start + length give < 448) (e : before ≡ start ++ map f (take i give)) where
+  gave : before ≡ start ++ map f give
+  gave = e ∙ ap (λ ls. start ++ map f ls) (take_all i give end)
+
+  -- there is room for an offer's own arc behind those of its give lines
+  pub own_room : length before ≡ length start + length give
+  own_room = omega (arith, ap length gave, length-append start (map f give), length-map give f)
+
+  pub own_more : (after : List Arc) (a own : Arc) (r : Result (Unit {0}) Refusal) → a ≡ own → Added 448 before after (a ∷ []) r → (after ≡ start ++ (map f give ++ own ∷ [])) × (length after ≡ length start + (length give + 1))
+  own_more after a own r is added =
+      let grown = one_more start before (map f give) after a own r gave (omega (arith, own_room)) is added in
+      (grown, omega (arith, ap length grown, length-append start (map f give ++ own ∷ []), length_push (map f give) own, length-map give f))
 
 -- the three parts of an offer's arcs
 pub offer_parts : (n : ℕ) (hs : List Holding) (p : ℕ) (o : Offer) (a b c : List Arc) → b ≡ a ++ (map (λ l. give_arc n hs o.member p l 0) o.give ++ own_arc p o.limit 0 ∷ []) → c ≡ b ++ map (λ l. get_arc (p + 1) l 0) o.get → c ≡ a ++ offer_arcs n hs p o (no_flows.offers 0)

@@ -48,7 +48,8 @@ impl OpenRound {
     {
         let items = self.items.len();
         for (k, h) in self.holdings.as_slice().iter().enumerate() {
-            let _ = arcs.push(Arc::new(h.item, (items + k) as u32, h.units, 0, 0));
+            let arc = Arc::new(h.item, (items + k) as u32, h.units, 0, 0);
+            arcs.push(arc).unwrap();
         }
     }
 
@@ -59,12 +60,14 @@ impl OpenRound {
         ensures { arcs.new ≡ arcs.old ++ offer_arcs (length (book self.now).items) (book self.now).holdings inside (seen offer.now) (no_flows.offers 0) }
     {
         for l in offer.give {
-            let _ = arcs.push(self.give_arc(offer.member, inside, *l));
+            let arc = self.give_arc(offer.member, inside, *l);
+            arcs.push(arc).unwrap();
         }
         let outside = inside + 1;
-        let _ = arcs.push(Arc::new(inside, outside, offer.limit, 0, 0));
+        let own = Arc::new(inside, outside, offer.limit, 0, 0);
+        arcs.push(own).unwrap();
         for l in offer.get {
-            let _ = arcs.push(get_arc(outside, *l));
+            arcs.push(get_arc(outside, *l)).unwrap();
         }
     }
 

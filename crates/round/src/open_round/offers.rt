@@ -106,18 +106,18 @@ impl OpenRound {
             get,
         };
         self.test(&offer)?;
-        // there is room for all of it
         let n = self.offers.len();
         let first = self.lines.len();
-        let _ = self.lines.extend(give);
-        let _ = self.lines.extend(get);
-        let _ = self.offers.push(Entry {
+        self.lines.extend(give).unwrap();
+        self.lines.extend(get).unwrap();
+        let entry = Entry {
             member,
             limit,
             first: first as u32,
             gives: give.len() as u32,
             gets: get.len() as u32,
-        });
+        };
+        self.offers.push(entry).unwrap();
         Ok(n as u32)
     }
 }

@@ -12,9 +12,10 @@ impl OpenRound {
         ensures outcome { book result ≡ fresh }
         ensures law { RoundLaw }
     {
+        // a name has no default, so cash lies in the unused cells
         let cash = Name::cash();
         let mut items = Table::new(cash);
-        let _ = items.push(cash);
+        items.push(cash).unwrap();
         OpenRound {
             items,
             members: Table::new(cash),

@@ -1,6 +1,5 @@
-use Rattle.std.proofs.Common.{sym, refl, ap, subst}
+use Rattle.std.proofs.Common.{sym, subst}
 use mathlib.Core.Logic.{∥∥₁_map}
-use Rattle.book.specs.Arcs.{nodes}
 use Rattle.round.specs.Carried.{Carries}
 use Rattle.round.specs.Rounds.{book}
 use Rattle.round.proofs.Pushed.{carries_none}
@@ -12,5 +11,5 @@ invariant_of-result g c =
     let b = book c.args.self in
     record { drawn = ∥∥₁_map c.args.self.sound (λ s. subst (Carries b) (sym c.arcs-arcs.ensures) (carries_none b s)) }
 
-pub returns : goal.returns
-returns g c = record { outcome = record { book = refl; net = ap (λ xs. record { nodes = nodes (book c.args.self); arcs = xs }) c.arcs-arcs.ensures }; law = law_holds g.met.W.Worth.lawful }
+pub returns-clause-law : goal.returns-clause-law
+returns-clause-law g c = law_holds g.met.W.Worth.lawful

@@ -10,5 +10,5 @@ invariant_of-self c =
     let r = c.args.self.now in
     record { sound = ∥∥₁_map r.sound (sound_item (book r) _ c.args.name.now c.list.result (item_listed (book r) _ c.args.name.now c.list.result c.list.ensures)); rows = r.rows }
 
-pub returns : goal.returns
-returns c = record { outcome = item_listed (book c.args.self.now) _ c.args.name.now c.list.result c.list.ensures; law = round_law }
+pub returns-clause-law : goal.returns-clause-law
+returns-clause-law c = round_law

@@ -1,4 +1,4 @@
-use Rattle.std.proofs.Common.{◌+◌, eqb, [], ◌∷◌, ◌++◌, map, ap, ◌∙◌, arith, rules}
+use Rattle.std.proofs.Common.{eqb, [], ◌∷◌, ◌++◌, map, ap, ◌∙◌, arith, rules}
 use Rattle.std.specs.Slice.Iter.{split_inclusive_rest}
 use Rattle.std.proofs.lemmas.Bool.Decides.{Decides-eqb}
 use Rattle.std.proofs.lemmas.List.Sorted.{answers_always}
@@ -32,6 +32,6 @@ returns-in_err-at_line c =
       split = c.loop-line.invariant ∙ ap (λ l. map spelling c.loop-line.ledger ++ l) split;
       sound = c.len.ensures.sound;
       few = omega arith;
-      counted = ap (λ f. f.line) e.1 ∙ ap (λ k. k + 1) c.len.ensures.count;
+      counted = omega (arith, ap (λ f. f.line) e.1);
       refused = h.0;
     })

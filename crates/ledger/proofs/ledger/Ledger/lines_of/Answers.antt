@@ -29,9 +29,3 @@ invariant_of-result c =
     let kept : Kept ts = subst Kept (sym c.as_slice-trade-items.ensures) c.self.invariant in
     let all = c.loop-trade.invariant ∙ ap (lines_of k) (take_all c.loop-trade.trade-index ts c.loop-trade-test.false) in
     subst Kept (sym all) (kept_sound k ts kept.0, omega (arith, kept_few k ts, kept.1))
-
-pub returns : goal.returns
-returns c =
-    let k = c.args.offer in
-    let ts = c.as_slice-trade-items.result.now in
-    c.loop-trade.invariant ∙ ap (lines_of k) (take_all c.loop-trade.trade-index ts c.loop-trade-test.false ∙ c.as_slice-trade-items.ensures ∙ c.self.view_is)

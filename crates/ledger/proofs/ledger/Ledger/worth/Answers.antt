@@ -1,7 +1,4 @@
-use Rattle.std.proofs.Common.{map, ap, ◌∙◌, subst, sym, arith}
-use Rattle.std.proofs.lemmas.List.{take_all, length-map}
-use Rattle.worth.specs.Kinds.{total}
-use Rattle.ledger.specs.Trades.{line_worth}
+use Rattle.std.proofs.Common.{ap, ◌∙◌, subst, sym, arith}
 use Rattle.ledger.proofs.Sums.{Kept, read_sound, blank, sum_next, sum_room}
 use Rattle.ledger.proofs.ledger.Ledger.worth.Goals as goal
 
@@ -21,11 +18,3 @@ pub loop-trade-preserved : goal.loop-trade-preserved
 loop-trade-preserved g c =
     let o = g.W.Worth.ops in
     sum_next g.met.W.Worth.lawful c.as_slice-trade-items.result.now c.loop-trade.trade-index blank c.loop-trade.sum _ c.loop-trade-test.true c.loop-trade.invariant (c.plus-sum.ensures ∙ ap (o.plus c.loop-trade.sum) c.worth.ensures)
-
-pub returns : goal.returns
-returns g c =
-    let o = g.W.Worth.ops in
-    let ts = c.as_slice-trade-items.result.now in
-    c.loop-trade.invariant
-    ∙ ap (total o) (take_all c.loop-trade.trade-index (map (line_worth o) ts) (omega (arith, length-map ts (line_worth o), c.loop-trade-test.false)))
-    ∙ ap (λ xs. total o (map (line_worth o) xs)) (c.as_slice-trade-items.ensures ∙ c.self.view_is)

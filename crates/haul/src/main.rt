@@ -23,9 +23,7 @@ fn print_table(
     table: &HaulTable<MoneyThenWeeks>,
     levels: &[MoneyThenWeeks],
 ) -> io::Result<()> {
-    let (_, count) = table.counts();
-    let arcs = (0..count).filter_map(|i| table.arc(i).ok());
-    for (number, arc) in arcs.enumerate() {
+    for (number, arc) in table.arcs().enumerate() {
         rt.println(Line::Leg(number, arc.flow))?;
     }
     let worth = table.worth();

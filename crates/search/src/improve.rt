@@ -16,10 +16,8 @@ fn read_arcs<N: Network>(net: &N, table: &mut [Arc])
     requires { length table.old ≡ length (N.Network.net net.now).arcs }
     ensures { table.new ≡ (N.Network.net net.now).arcs }
 {
-    for (i, slot) in table.iter_mut().enumerate() {
-        if let Ok(arc) = net.arc(i as u32) {
-            *slot = arc;
-        }
+    for (i, arc) in net.arcs().enumerate() {
+        table[i] = arc;
     }
 }
 

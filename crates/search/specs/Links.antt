@@ -45,7 +45,7 @@ abbrev pub line : List Arc → ℕ → List Step → List ℕ
 line ls v [] = v ∷ []
 line ls v (s ∷ q) = v ∷ line ls (tail_of ls s) q
 
--- there is a way up from node v, shorter than there are nodes
+-- there is a way up from node v, shorter than the table of links
 abbrev pub Rooted : List Arc → List (Option Step) → ℕ → Type 0
 Rooted ls ks v = (q : List Step) × Up ls ks v q × (length q < length ks)
 

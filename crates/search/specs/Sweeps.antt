@@ -39,7 +39,7 @@ module _ {W : Type 0} (G : Ops W) (n : ℕ) (ls : List Arc) where
     pub goes : Open (net G n ls) (flow_of ls) s
     pub most : Le G (potential G xs v) (offer xs s)
 
-  -- one potential xs and one link ks for each node: the links lead from every node up to a root,
+  -- a potential xs for each node, and no fewer places for links ks: the links lead from every node up to a root,
   -- whose potential is at most none
   pub record Forest (xs : List W) (ks : List (Option Step)) : Type 0 where
     pub sound : SoundArcs n ls

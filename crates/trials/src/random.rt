@@ -1,7 +1,6 @@
-ghost use Rattle.std.specs.Prelude.{◌<◌, ◌≤◌, IfOk, vec_len};
+ghost use Rattle.std.specs.Prelude.{◌<◌, ◌≤◌, length};
 
 use flow::arc::Arc;
-use std::alloc::{AllocError, Global};
 
 // Numbers that look random and are the same in each run.
 #[derive(Clone, Copy)]
@@ -43,17 +42,16 @@ impl Random {
         )
     }
 
-    // Up to five arcs between up to four nodes, parallel ones and loops among them.
-    pub fn arcs(&mut self, alloc: Global) -> Result<Vec<Arc>, AllocError>
-        ensures { IfOk result (λ arcs. vec_len arcs ≤ 5) }
+    // Up to five arcs between up to four nodes, parallel ones and loops among them, at the start of the room that is lent.
+    pub fn arcs<'a>(&mut self, room: &'a mut [Arc; 5]) -> &'a mut [Arc]
+        ensures { length result.now ≤ 5 }
     {
         let nodes = self.below(4) + 1;
-        // the filler is drawn too, and then each arc
-        let mut arcs = vec![in alloc; self.arc(nodes); 5]?;
-        for arc in arcs.iter_mut() {
+        // one arc more is drawn first, and left out
+        let _ = self.arc(nodes);
+        for arc in room.iter_mut() {
             *arc = self.arc(nodes);
         }
-        arcs.truncate(self.below(6) as usize);
-        Ok(arcs)
+        &mut room[..self.below(6) as usize]
     }
 }

@@ -1,9 +1,10 @@
 -- What check finds: whether an allotment is allowed, and what each offer comes to.
-use Rattle.std.proofs.Common.{◌≡◌, ℕ, zero, suc, ◌*◌, ◌<◌, ◌≤◌, cond, eqb, ◌≢◌, ◌⊎◌, List, [], ◌∷◌, map, length, ℤ, pos, ◌-ℤ◌, Some, Ok, Err, Result, MatchResult, sym, refl, ap, ◌∙◌, subst, inl, inr, ⊎_elim, arith}
+use Rattle.std.proofs.Common.{◌≡◌, ℕ, suc, ◌*◌, ◌<◌, ◌≤◌, cond, eqb, ◌≢◌, List, [], ◌∷◌, map, length, ℤ, pos, ◌-ℤ◌, Some, Ok, Err, Result, MatchResult, sym, refl, ap, ◌∙◌, subst, ⊎_elim, arith}
 use mathlib.Core.Logic.{∥∥₁_elim}
 use native.Mathlib.Bridge.{le_prop}
 use Rattle.std.proofs.lemmas.List.{length-map}
 use Rattle.std.proofs.lemmas.Bool.{cases_lt, cases_eq}
+use Rattle.std.proofs.lemmas.Option.{none-some}
 use Rattle.worth.specs.Kinds.{Ops}
 use Rattle.worth.specs.Money.{money}
 use Rattle.worth.specs.Integers.{money_laws}
@@ -11,7 +12,6 @@ use Rattle.tables.specs.Refusals.{when, First}
 use Rattle.tables.specs.declared.refusal.Refusal.{Refusal}
 use Rattle.tables.proofs.Firsts.{accepted}
 use Rattle.flow.specs.Arcs.{arc_at}
-use Rattle.flow.specs.declared.arc.Arc.{Arc}
 use Rattle.flow.specs.Graphs.{Graph, Within, Circulation}
 use Rattle.flow.specs.Groups.{kind}
 use Rattle.network.specs.Circulations.{Circulates}
@@ -40,10 +40,6 @@ use Rattle.record.specs.Evidence.{network_of, Passes}
 use Rattle.record.specs.Networks.{Exceeds}
 use Rattle.record.specs.declared.passed.Passed.{Passed}
 use Rattle.record.specs.declared.passed.Total.{Total}
-
--- some flow of the first k arcs exceeds its capacity
-abbrev Over : List Arc → ℕ → Type 0
-Over arcs k = (i : ℕ) × (i < k) × ((arc_at arcs i).capacity < (arc_at arcs i).flow)
 
 -- the filled network has the graph of its book
 same_graph : (b : Book) (a : Allotment) → graph money (net_of b) ≡ graph money (filled b a)
@@ -87,26 +83,13 @@ results_alike (o ∷ os) a c h =
 pub few_offers : (r : OpenRound) → length (book r).offers ≤ 64
 few_offers r = ∥∥₁_elim r.sound le_prop (λ s. s.offers_few)
 
--- whether some flow exceeds its capacity can be found out
-some_exceeds : (arcs : List Arc) (k : ℕ) → Over arcs k ⊎ (Over arcs k → ⊥)
-some_exceeds arcs zero = inr (λ o. omega (arith, o.1))
-some_exceeds arcs (suc k) = go (some_exceeds arcs k) (cases_lt (arc_at arcs k).capacity (arc_at arcs k).flow)
-  where
-    other : (Over arcs k → ⊥) → (arc_at arcs k).flow ≤ (arc_at arcs k).capacity → Over arcs (suc k) → ⊥
-    other none le (i, l, h) = ⊎_elim (λ (e : i ≡ k). let q = subst (λ j. (arc_at arcs j).capacity < (arc_at arcs j).flow) e h in omega arith) (λ (d : i ≢ k). none (i, omega arith, h)) (cases_eq i k)
-
-    go : Over arcs k ⊎ (Over arcs k → ⊥) → ((arc_at arcs k).capacity < (arc_at arcs k).flow) ⊎ ((arc_at arcs k).flow ≤ (arc_at arcs k).capacity) → Over arcs (suc k) ⊎ (Over arcs (suc k) → ⊥)
-    go (inl (i, l, h)) d = inl (i, omega arith, h)
-    go (inr none) (inl h) = inl (k, omega arith, h)
-    go (inr none) (inr le) = inr (other none le)
-
 -- a record whose network could not be drawn has an allotment that is not allowed
 pub undrawn : (x : Contents) (n : ℕ) → Sound (book_of x) → First (when 15 (Exceeds (network_of x)) ∷ []) (Some n) → First (failing x) (Some n)
-undrawn x n s f = go (some_exceeds (network_of x).arcs (length (network_of x).arcs))
-  where
-    go : Exceeds (network_of x) ⊎ (Exceeds (network_of x) → ⊥) → First (failing x) (Some n)
-    go (inl e) = (λ _. f.0 e, λ stable. absurd (stable (not_exceeding (book_of x) (allotted x) s e)))
-    go (inr none) = let e = f.1 none in let z : ◌≡◌ {A = ℕ} 0 1 = cc in absurd (omega arith)
+undrawn x n s f =
+    let some : (Exceeds (network_of x) → ⊥) → ⊥ = λ none. none-some n (sym (f.1 none)) in (
+      λ _. ⊎_elim (λ (e : n ≡ 15). ap Some e) (λ (d : n ≢ 15). absurd (some (λ h. d (let q = f.0 h in cc)))) (cases_eq n 15),
+      λ stable. absurd (some (λ h. stable (not_exceeding (book_of x) (allotted x) s h))),
+    )
 
 -- an offer that there is has its payoff
 pub paid : (b : Book) (a : Allotment) (k : ℕ) (r : Result (ℤ × ℕ) Refusal) → AnswersPayoff b a k r → k < length b.offers → (p : ℤ × ℕ) × (r ≡ Ok p) × ((p.0 ≡ payoff (offer_at b k) (a k)) × (p.1 ≡ weeks_of (offer_at b k) (a k)))

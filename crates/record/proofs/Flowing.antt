@@ -1,8 +1,8 @@
 -- The flows of a record's network in the order of its arcs.
-use Rattle.std.proofs.Common.{◌≡◌, ℕ, zero, suc, ◌+◌, ◌<◌, ◌≤◌, List, [], ◌∷◌, ◌++◌, map, length, get_or, take, sum, Result, sym, refl, ap, ◌∙◌, subst, ap₂, arith}
+use Rattle.std.proofs.Common.{◌≡◌, ℕ, zero, suc, ◌+◌, ◌≤◌, List, [], ◌∷◌, ◌++◌, map, length, get_or, sum, Result, sym, refl, ap, ◌∙◌, ap₂, arith}
 use mathlib.Core.Path.{fun_ext}
 use Rattle.std.specs.List.{flat_map}
-use Rattle.std.proofs.lemmas.List.{append_assoc, length-append, length-map, length-take-le, map-append, map_more}
+use Rattle.std.proofs.lemmas.List.{append_assoc, length-append, length-map, map-append}
 use Rattle.std.proofs.lemmas.List.Sums.{sum_by-cons}
 use Rattle.tables.specs.Tables.{Added}
 use Rattle.tables.specs.declared.refusal.Refusal.{Refusal}
@@ -84,13 +84,6 @@ flows_fill x n ys en ey =
     let xs = (network_of x).arcs in
     let row = ap (map_with (λ a y. with_flow y a) (arcs_of b)) (fun_ext (flow_at xs)) ∙ laid_as_row b (filling b (allotted x)) in
     ap₂ with_flows en (ey ∙ sym (flows_filled x)) ∙ (λ j. record { nodes = nodes b; arcs = row j })
-
--- the flow of one more holding; es are the holdings as they were shown
-pub held_more : (f : Holding → ℕ) (hs es : List Holding) (i : ℕ) (d : Holding) (before after : List ℕ) (y : ℕ) (r : Result (Unit {0}) Refusal) → es ≡ hs → length hs ≤ 128 → i < length es → before ≡ map f (take i hs) → y ≡ f (get_or es i d) → Added 448 before after (y ∷ []) r → after ≡ map f (take (i + 1) hs)
-held_more f hs es i d before after y r same few lt inv is added =
-    let l : i < length hs = subst (λ xs. i < length xs) same lt in
-    let long = ap length inv ∙ length-map (take i hs) f ∙ length-take-le i hs (omega arith) in
-    grew 448 before after (y ∷ []) r added (omega arith) ∙ ap₂ (λ xs z. xs ++ z ∷ []) inv (is ∙ ap (λ xs. f (get_or xs i d)) same) ∙ sym (map_more f hs i d l)
 
 -- the flows of an offer, by its rows of units
 pub row_shown : (v : FilledOffer) → flow_row (filled v) ≡ v.given.now ++ (sum v.given.now ∷ v.got.now)

@@ -15,7 +15,9 @@ use Rattle.reading.specs.Contents.{contents}
 use Rattle.reading.specs.Held.{units_in}
 use Rattle.reading.specs.declared.record.Record.{Record}
 use Rattle.reading.proofs.Helds.{units_counted}
+use Rattle.record.specs.Filled.{left}
 use Rattle.record.specs.Flows.{Moderate}
+use Rattle.record.specs.declared.record_network.filled.FilledOffers.{FilledOffers}
 
 -- the bounds of what a record holds
 pub record Bounded (x : Contents) : Type 0 where
@@ -61,10 +63,19 @@ units_back [] (u ∷ us) e = absurd (omega arith)
 units_back (l ∷ ls) [] e = absurd (omega arith)
 units_back (l ∷ ls) (u ∷ us) e = ap (λ vs. u ∷ vs) (units_back ls us (omega arith))
 
--- an offer that a round shows, and the parts of a row of units that are its own
-module _ (x : Contents) (bs : Bounded x) (k : ℕ) (us : List ℕ) (own : us ≡ units_in (drop k x.offers)) (b : Book) (eb : b ≡ book_of x) (v : OfferView) (shown : (k < length b.offers) × (seen v ≡ get_or b.offers k no_offer)) where
+-- what is known of an offer that comes next, of its units and of those that are left after them
+pub record Parted (s : FilledOffers) (v : OfferView) (given got rest : List ℕ) : Type 0 where
+  pub gives : Moderate v.give.now given
+  pub gets : Moderate v.get.now got
+  pub own : rest ≡ units_in (drop (s.next + 1) (contents s.read.now).offers)
+  pub first : left s ≡ fill_offer (seen v) (record { give = λ t. get_or given t 0; get = λ t. get_or got t 0 }) ∷ drop (s.next + 1) (contents s.read.now).offers
+
+module _ (s : FilledOffers) {b : Book} (e : b ≡ book_of (contents s.read.now)) (v : OfferView) (shown : (s.next < length b.offers) × (seen v ≡ get_or b.offers s.next no_offer)) where
+  abbrev os : List OfferWithUnits
+  os = (contents s.read.now).offers
+
   abbrev o : OfferWithUnits
-  o = get_or x.offers k no_filled_offer
+  o = get_or os s.next no_filled_offer
 
   abbrev gives : List ℕ
   gives = map units_of o.give
@@ -73,16 +84,19 @@ module _ (x : Contents) (bs : Bounded x) (k : ℕ) (us : List ℕ) (own : us ≡
   gets = map units_of o.get
 
   abbrev later : List ℕ
-  later = units_in (drop (k + 1) x.offers)
+  later = units_in (drop (s.next + 1) os)
 
-  pub known : k < length x.offers
-  known = omega (arith, shown.0, ap (λ c. length c.offers) eb, length-map x.offers offer_of)
+  known : s.next < length os
+  known = omega (arith, shown.0, ap (λ c. length c.offers) e, length-map os offer_of)
+
+  pub number_fits : s.next < 64
+  number_fits = omega (arith, known, (bounded s.read.now).offers)
 
   is : seen v ≡ offer_of o
-  is = shown.1 ∙ ap (λ c. get_or c.offers k no_offer) eb ∙ get_or-map offer_of x.offers k no_filled_offer no_offer known
+  is = shown.1 ∙ ap (λ c. get_or c.offers s.next no_offer) e ∙ get_or-map offer_of os s.next no_filled_offer no_offer known
 
-  ahead : us ≡ gives ++ (gets ++ later)
-  ahead = own ∙ ap units_in (drop_more x.offers k no_filled_offer known)
+  ahead : s.units.now ≡ gives ++ (gets ++ later)
+  ahead = s.own ∙ ap units_in (drop_more os s.next no_filled_offer known)
 
   many_given : length gives ≡ length v.give.now
   many_given = length-map o.give units_of ∙ sym (length-map o.give line_of) ∙ sym (ap (λ c. length c.give) is)
@@ -91,16 +105,13 @@ module _ (x : Contents) (bs : Bounded x) (k : ℕ) (us : List ℕ) (own : us ≡
   many_got = length-map o.get units_of ∙ sym (length-map o.get line_of) ∙ sym (ap (λ c. length c.get) is)
 
   few : length gives + length gets ≤ 256
-  few = omega (arith, bs.lines, later_few x.offers k, ap length own, ap length ahead, length-append gives (gets ++ later), length-append gets later)
+  few = omega (arith, (bounded s.read.now).lines, later_few os s.next, ap length s.own, ap length ahead, length-append gives (gets ++ later), length-append gets later)
 
   -- the row is long enough for the give lines
-  pub gives_fit : length v.give.now ≤ length us
+  pub gives_fit : length v.give.now ≤ length s.units.now
   gives_fit = omega (arith, ap length ahead, length-append gives (gets ++ later), many_given)
 
-  module _ (given others : List ℕ) (eg : given ≡ take (length v.give.now) us) (eo : others ≡ drop (length v.give.now) us) where
-    given_is : given ≡ gives
-    given_is = eg ∙ ap (take (length v.give.now)) ahead ∙ take_at gives (gets ++ later) (length v.give.now) many_given
-
+  module _ {others : List ℕ} (eo : others ≡ drop (length v.give.now) s.units.now) where
     others_is : others ≡ gets ++ later
     others_is = eo ∙ ap (drop (length v.give.now)) ahead ∙ drop_at gives (gets ++ later) (length v.give.now) many_given
 
@@ -108,25 +119,23 @@ module _ (x : Contents) (bs : Bounded x) (k : ℕ) (us : List ℕ) (own : us ≡
     pub gets_fit : length v.get.now ≤ length others
     gets_fit = omega (arith, ap length others_is, length-append gets later, many_got)
 
-    pub gives_moderate : Moderate v.give.now given
-    gives_moderate = record { long = sym many_given ∙ sym (ap length given_is); few = omega (arith, few, ap length given_is); small = λ t. subst (λ ys. get_or ys t 0 ≤ 1000) (sym given_is) (bs.units k t).0 }
+    module _ {given got rest : List ℕ} (eg : given ≡ take (length v.give.now) s.units.now) (ew : got ≡ take (length v.get.now) others) (er : rest ≡ drop (length v.get.now) others) where
+      given_is : given ≡ gives
+      given_is = eg ∙ ap (take (length v.give.now)) ahead ∙ take_at gives (gets ++ later) (length v.give.now) many_given
 
-    module _ (got rest : List ℕ) (ew : got ≡ take (length v.get.now) others) (er : rest ≡ drop (length v.get.now) others) where
       got_is : got ≡ gets
       got_is = ew ∙ ap (take (length v.get.now)) others_is ∙ take_at gets later (length v.get.now) many_got
 
-      pub gets_moderate : Moderate v.get.now got
-      gets_moderate = record { long = sym many_got ∙ sym (ap length got_is); few = omega (arith, few, ap length got_is); small = λ t. subst (λ ys. get_or ys t 0 ≤ 1000) (sym got_is) (bs.units k t).1 }
-
-      -- what is left of the row belongs to the offers after it
-      pub own_next : rest ≡ units_in (drop (k + 1) x.offers)
-      own_next = er ∙ ap (drop (length v.get.now)) others_is ∙ drop_at gets later (length v.get.now) many_got
-
-      -- with its units it is the first of the offers that were to come
-      pub first_is : drop k x.offers ≡ fill_offer (seen v) (record { give = λ t. get_or given t 0; get = λ t. get_or got t 0 }) ∷ drop (k + 1) x.offers
-      first_is =
+      pub parted : Parted s v given got rest
+      parted =
+          let units = (bounded s.read.now).units s.next in
           let whole : offer_of o ≡ seen v = sym is in
           let g : gives ≡ given = sym given_is in
           let w : gets ≡ got = sym got_is in
           let same : o ≡ fill_offer (offer_of o) (record { give = units_on o.give; get = units_on o.get }) = (λ i. record { member = o.member; limit = o.limit; give = sym (again o.give) i; get = sym (again o.get) i }) in
-          drop_more x.offers k no_filled_offer known ∙ ap (λ c. c ∷ drop (k + 1) x.offers) (same ∙ (λ i. fill_offer (whole i) (record { give = λ t. get_or (g i) t 0; get = λ t. get_or (w i) t 0 })))
+          record {
+            gives = record { long = sym many_given ∙ ap length g; few = omega (arith, few, ap length g); small = λ t. subst (λ ys. get_or ys t 0 ≤ 1000) g (units t).0 };
+            gets = record { long = sym many_got ∙ ap length w; few = omega (arith, few, ap length w); small = λ t. subst (λ ys. get_or ys t 0 ≤ 1000) w (units t).1 };
+            own = er ∙ ap (drop (length v.get.now)) others_is ∙ drop_at gets later (length v.get.now) many_got;
+            first = drop_more os s.next no_filled_offer known ∙ ap (λ c. c ∷ drop (s.next + 1) os) (same ∙ (λ i. fill_offer (whole i) (record { give = λ t. get_or (g i) t 0; get = λ t. get_or (w i) t 0 })));
+          }

@@ -35,7 +35,7 @@ fn put_worths<W: Levelled>(levels: &[Level], table: &mut [W])
     }
 }
 
-// Each offer's payoff and weeks got.
+// Each offer's payoff and weeks got, which are asked for by its number.
 fn results<W: Worth>(round: &ClosedRound<W>) -> Table<OfferResult, 64>
     ensures { result ≡ map_with result_of (closed_book round.now).offers (closed_allotment round.now) }
 {

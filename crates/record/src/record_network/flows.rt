@@ -1,7 +1,8 @@
-ghost use Rattle.std.specs.Prelude.{◌≡◌, ◌+◌, ◌^◌, ◌<◌, ◌≤◌, ◌++◌, map, length, sum, slice_index};
+ghost use Rattle.std.specs.Prelude.{◌≡◌, ◌+◌, ◌^◌, ◌<◌, ◌≤◌, ◌++◌, map, length, sum, ◌==◌, slice_index};
+ghost use Rattle.flow.specs.Graphs.{when};
 ghost use Rattle.book.specs.Allotments.{of_item};
 ghost use Rattle.reading.specs.Contents.{contents};
-ghost use Rattle.record.specs.Filled.{filled, given_in};
+ghost use Rattle.record.specs.Filled.{filled};
 ghost use Rattle.record.specs.Flows.{flow_row, given_from, flows_of};
 
 use super::filled::{FilledOffer, FilledOffers};
@@ -33,7 +34,7 @@ impl<'a> FilledOffer<'a> {
 
     // The units that it gives from a holding.
     fn given_from(self, h: Holding) -> u32
-        ensures { result ≡ given_in h (filled self.entry) }
+        ensures { result ≡ when (self.entry.offer.member == h.member) (of_item h.item self.entry.offer.give.now (λ t. slice_index self.entry.given.now t)) }
     {
         if self.offer.member == h.member {
             self.given_of(h.item)

@@ -1,5 +1,4 @@
-use Rattle.std.proofs.Common.{◌≡◌, map, length, sym, refl, ap, ◌∙◌, subst, arith}
-use Rattle.std.proofs.lemmas.List.{length-take-le}
+use Rattle.std.proofs.Common.{◌≡◌, map, sym, refl, ap, ◌∙◌, subst}
 use Rattle.std.proofs.lemmas.Result.{err_from_is_err_and}
 use Rattle.std.proofs.lemmas.Bool.Decides.{not_from_Decides}
 use Rattle.tables.proofs.Firsts.{here, next, not_first}
@@ -61,9 +60,3 @@ returns g c v k =
 
 pub put_worths-requires : goal.put_worths-requires
 put_worths-requires g c = levels_few c.args.read c.levels-levels.result.now c.levels-levels.ensures
-
-pub slice_bounds-fits-end : goal.slice_bounds-fits-end
-slice_bounds-fits-end g c =
-    let few = levels_few c.args.read c.levels-levels.result.now c.levels-levels.ensures in
-    let long = c.put_worths.auto.table in
-    sym (length-take-le (length c.levels-levels.result.now) c.put_worths.new.table (omega (arith, few, long)))

@@ -1,6 +1,5 @@
-use Rattle.std.proofs.Common.{◌≡◌, ◌∷◌, ◌++◌, [], List, length, map, take, set, ℤ, refl, sym, ap, ◌∙◌, add-one, arith}
-use Rattle.std.proofs.Math.Seq.{take-suc-set}
-use Rattle.std.proofs.lemmas.List.{take_all, map_more}
+use Rattle.std.proofs.Common.{◌≡◌, ◌∷◌, [], List, length, map, take, ℤ, refl, ap, ◌∙◌, arith}
+use Rattle.std.proofs.lemmas.List.{take_all}
 use Rattle.reading.specs.Levels.{numbers}
 use Rattle.reading.specs.declared.level.Level.{Level}
 use Rattle.record.proofs.check.put_worths.Goals as goal
@@ -9,12 +8,6 @@ use Rattle.record.proofs.check.put_worths.Goals as goal
 again : {W : Type 0} (f : Level → W) (h : W → List ℤ) (k : Level → List ℤ) → ((l : Level) → h (f l) ≡ k l) → (ls : List Level) → map h (map f ls) ≡ map k ls
 again f h k e [] = refl
 again f h k e (l ∷ ls) = let first = e l in let rest = again f h k e ls in (λ i. first i ∷ rest i)
-
-pub loop-i-preserved : goal.loop-i-preserved
-loop-i-preserved g c =
-    let i = c.loop-i.i in
-    let before = c.loop-i.table in
-    ap (λ n. take n (set before i c.from_level.result)) (add-one i) ∙ take-suc-set before i c.from_level.result (omega arith) ∙ (λ j. c.loop-i.invariant j ++ c.from_level.ensures j ∷ []) ∙ sym (map_more g.W.Levelled.worth c.args.levels.now i _ (omega arith))
 
 pub returns : goal.returns
 returns g c =

@@ -1,8 +1,7 @@
 use Rattle.std.proofs.Common.{◌≡◌, ◌<◌, [], ◌∷◌, ◌++◌, length, get_or, take, is_ok, sym, ap, ◌∙◌, arith}
-use Rattle.std.proofs.lemmas.List.{take_all, length-take-le}
+use Rattle.std.proofs.lemmas.List.{length-take-le}
 use Rattle.tables.proofs.Entries.{grew}
 use Rattle.book.specs.Books.{no_offer}
-use Rattle.book.specs.Rows.{map_with}
 use Rattle.book.proofs.Sums.{length_map_with}
 use Rattle.round.specs.Closed.{closed_book, closed_allotment}
 use Rattle.record.specs.Checks.{result_of}
@@ -10,9 +9,6 @@ use Rattle.record.specs.declared.passed.OfferResult.{OfferResult}
 use Rattle.record.proofs.Checking.{few_offers, paid}
 use Rattle.record.proofs.Offered.{with_more}
 use Rattle.record.proofs.check.results.Goals as goal
-
-pub loop-k-init : goal.loop-k-init
-loop-k-init g c = c.new-results.ensures
 
 pub unwrap-answer-requires : goal.unwrap-answer-requires
 unwrap-answer-requires g c =
@@ -35,9 +31,3 @@ loop-k-preserved g c =
     grew 64 c.loop-k.results c.push.new.self (c.into.result ∷ []) c.push.result c.push.ensures (omega arith)
     ∙ (λ i. c.loop-k.invariant i ++ (c.into.ensures ∙ ap (λ (p : _ × _). record { payoff = p.0; weeks = p.1 }) same ∙ says) i ∷ [])
     ∙ sym (with_more result_of os a k no_offer lt)
-
-pub returns : goal.returns
-returns g c =
-    let r = c.args.round.now in
-    let os = (closed_book r).offers in
-    c.loop-k.invariant ∙ ap (λ xs. map_with result_of xs (closed_allotment r)) (take_all c.loop-k.k os (omega (arith, c.offer_count-k-end.ensures, ap (λ b. length b.offers) c.terms.ensures)))

@@ -1,19 +1,12 @@
-use Rattle.std.proofs.Common.{◌≡◌, replicate, Ok, sym, ap, ◌∙◌, subst, arith}
+use Rattle.std.proofs.Common.{◌≡◌, replicate, Ok, sym, ap, ◌∙◌, subst}
 use Rattle.search.specs.Outcomes.{Clearing}
 use Rattle.book.specs.Arcs.{net_of}
 use Rattle.round.specs.Closed.{closed_book, closed_net}
 use Rattle.round.specs.Rounds.{book}
 use Rattle.record.specs.Sheets.{ClearedRound}
-use Rattle.reading.proofs.Wholly.{few_nodes}
 use Rattle.record.proofs.Sheeting.{filed_best}
 use Rattle.record.proofs.Unique.{book_sound}
 use Rattle.record.proofs.sheet.clear_by.Goals as goal
-
-pub returns-in_err-clear : goal.returns-in_err-clear
-returns-in_err-clear g c =
-    let closes = c.close-closed.ensures.outcome in
-    let short = c.in_err-clear.ensures.outcome.short in
-    absurd (omega (arith, short, ap (λ n. n.nodes) closes.net, few_nodes c.args.round))
 
 pub returns : goal.returns
 returns g c =

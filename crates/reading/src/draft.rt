@@ -18,7 +18,7 @@ mod sections;
 // What has been read so far of a record, and what is left of its text.
 #[derive(Drop)]
 pub(crate) struct Draft<'a> {
-    pub(crate) reader: Reader<'a>,
+    reader: Reader<'a>,
     pub(crate) kind: Kind,
     pub(crate) round: OpenRound,
     pub(crate) units: Table<u32, 256>,

@@ -54,7 +54,7 @@ impl Entry {
         match self {
             Entry::Item => n > 0,
             Entry::Level => n == 0 || n == u64::from(nodes),
-            _ => true,
+            Entry::Member | Entry::Holding | Entry::Offer => true,
         }
     }
 

@@ -17,7 +17,8 @@ impl Draft<'_> {
         Ok(())
     }
 
-    // The next name under M, as one more member of the round. One function with the round's call as a parameter would be longer than these two.
+    // The next name under M, as one more member of the round.
+    // One function for both, with the round's call as a parameter, would be longer than the two are.
     pub(super) fn next_member(&mut self) -> Result<(), Fault>
         requires { length (so_far self.old).members < 32 }
         ensures { Gains Member 1 self.old self.new result }

@@ -13,6 +13,7 @@ mod calls;
 mod parse;
 
 // What a text reads as: the kind of worth, the round, the units on its lines one after the other, and the levels.
+// The units lie beside the round and not in its lines, since a round takes offers without units.
 #[derive(Drop)]
 pub struct Record {
     kind: Kind,

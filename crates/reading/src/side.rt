@@ -78,11 +78,7 @@ impl Side<'_> {
         requires { length units.old + n ≤ 256 }
         ensures { MatchResult result (λ lines. LinesRead self.entry.items self.entry.give.now n lines units.old units.new reader.old reader.new) (λ f. LinesStop self.entry.items self.entry.give.now n reader.old f) }
     {
-        let mut lines = Table::new(Line {
-            item: 0,
-            limit: 0,
-            price: 0,
-        });
+        let mut lines = Table::default();
         for _ in 0..n {
             let filled = self.next_line(reader, lines.as_slice())?;
             let _ = lines.push(filled.line);

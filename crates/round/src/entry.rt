@@ -1,4 +1,5 @@
 // An offer as a round keeps it. Its lines stand in the round's table of lines from `first` on: the give lines, then the get lines.
+// An entry that held its lines would need the heap, which no call of the library asks for.
 #[derive(Clone, Copy, Debug, Default, PartialEq, Eq)]
 pub struct Entry {
     pub member: u32,

@@ -29,7 +29,7 @@ impl<'a> Residual<'a> {
         }
     }
 
-    // The node that a step leads to.
+    // The node that a step leads to. Through `tail` of the step turned round it would be no shorter.
     pub(crate) fn head(self, step: Step) -> usize
         requires { arc_of step < length self.arcs.now }
         ensures { result ≡ head_of self.entry.arcs.now step }

@@ -12,7 +12,7 @@ use flow::step::Step;
 use std::ops::ControlFlow;
 use worth::kind::Worth;
 
-// A potential and a link for each node of a network.
+// A potential and a link for each node of a network: two rows, since the potentials lie in the work table that the caller lends.
 #[derive(Drop)]
 pub(crate) struct Search<'a, W> {
     net: Residual<'a>,
@@ -105,6 +105,7 @@ impl<'a, W: Worth> Search<'a, W> {
         ensures sweeps { SweepsTo W.ops self.old self.new result }
     {
         let mut moved = false;
+        // a step names its arc by number
         for i in 0..self.net.arcs.len() {
             for step in both_ways(i) {
                 moved |= self.relax(step)?;

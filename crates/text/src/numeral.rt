@@ -36,6 +36,7 @@ impl Numeral for u64 {
     }
 }
 
+// Apart from `u64`, since its notation and its two calls differ, and nothing else is in either.
 impl Numeral for i64 {
     ghost notation = { signed };
 

@@ -31,19 +31,19 @@ fn advance(arcs: &mut [Arc]) -> bool {
     false
 }
 
+// The flows of the arcs that pass a test.
+fn carried<F: Fn(&Arc) -> bool>(arcs: &[Arc], counts: F) -> u64
+    requires { F.IsAlwaysCallable counts }
+{
+    arcs.iter()
+        .filter(|arc| counts(arc))
+        .map(|arc| u64::from(arc.flow))
+        .fold(0, u64::wrapping_add)
+}
+
 // Whether as much comes into a node as goes out of it.
 fn balanced(arcs: &[Arc], node: u32) -> bool {
-    let into = arcs
-        .iter()
-        .filter(|arc| arc.to == node)
-        .map(|arc| u64::from(arc.flow))
-        .fold(0, u64::wrapping_add);
-    let out = arcs
-        .iter()
-        .filter(|arc| arc.from == node)
-        .map(|arc| u64::from(arc.flow))
-        .fold(0, u64::wrapping_add);
-    into == out
+    carried(arcs, |arc| arc.to == node) == carried(arcs, |arc| arc.from == node)
 }
 
 // Whether the flows are a circulation of a network of four nodes.

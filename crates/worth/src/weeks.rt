@@ -4,7 +4,7 @@ ghost use Rattle.worth.specs.Integers.{weeks_laws};
 
 use super::kind::Worth;
 
-// A count of weeks. A unit is worth its weeks.
+// A count of weeks. A unit is worth its weeks. It is no kind of `Money`: the worth of a unit and the measure of a size differ.
 #[derive(Clone, Copy, Debug, PartialEq, Eq, PartialOrd, Ord)]
 pub struct Weeks {
     pub count: i64,

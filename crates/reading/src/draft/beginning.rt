@@ -7,7 +7,6 @@ ghost use Rattle.reading.specs.Reading.{LineRead};
 
 use super::super::entry::Entry;
 use super::super::kind::Kind;
-use super::super::level::Level;
 use super::super::next::{next_name, test_same};
 use super::Draft;
 use round::open_round::OpenRound;
@@ -34,8 +33,8 @@ impl<'a> Draft<'a> {
             reader,
             kind,
             round: OpenRound::open(),
-            units: Table::new(0),
-            levels: Table::new(Level::default()),
+            units: Table::default(),
+            levels: Table::default(),
         };
         draft.next_entries(Entry::Item, n - 1)?;
         Ok(draft)

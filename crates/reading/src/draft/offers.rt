@@ -35,7 +35,7 @@ impl Draft<'_> {
         let lines = self.units.len();
         let head = next_offer_head(&mut self.reader, members, lines)?;
         // Its units are kept apart until the round has it, so that the draft stays whole where the text is refused in between.
-        let mut units = Table::new(0);
+        let mut units = Table::default();
         let gives = Side { items, give: &[] };
         let give = gives.next_lines(&mut self.reader, head.gives, &mut units)?;
         let gets = Side {

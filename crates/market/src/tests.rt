@@ -1,7 +1,7 @@
 use book::line::Line;
+use book::side::Side;
 use round::closed_round::ClosedRound;
 use round::open_round::OpenRound;
-use book::side::Side;
 use tables::refusal::Refusal;
 use worth::money::Money;
 

@@ -39,7 +39,7 @@ fn put_worths<W: Levelled>(levels: &[Level], table: &mut [W])
 fn results<W: Worth>(round: &ClosedRound<W>) -> Table<OfferResult, 64>
     ensures { result ≡ map_with result_of (closed_book round.now).offers (closed_allotment round.now) }
 {
-    let mut results = Table::new(OfferResult::default());
+    let mut results = Table::default();
     for k in 0..round.terms().offer_count() {
         let answer = round.payoff(k).unwrap();
         let _ = results.push(answer.into());

@@ -4,7 +4,7 @@ use worth::money::Money;
 use worth::weeks::Weeks;
 
 // The worth of a record's allotment, by its kind.
-#[derive(Clone, Copy)]
+#[derive(Clone, Copy, Debug, PartialEq, Eq)]
 pub enum Total {
     Money(Money),
     MoneyThenWeeks(Lexicographic<Money, Weeks>),

@@ -8,8 +8,8 @@ ghost use Rattle.record.specs.Writing.{Adds, side_lines};
 
 use super::draft::Draft;
 use book::line::Line;
-use round::closed_round::ClosedRound;
 use book::side::Side;
+use round::closed_round::ClosedRound;
 use text::section::Section;
 use worth::kind::Worth;
 

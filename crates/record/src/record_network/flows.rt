@@ -67,7 +67,7 @@ fn given_from(record: &Record, h: Holding) -> u32
 fn holding_flows(record: &Record) -> Table<u32, 448>
     ensures { result ≡ map (given_from (contents «record».now)) (contents «record».now).holdings }
 {
-    let mut flows = Table::new(0);
+    let mut flows = Table::default();
     for h in record.terms().held() {
         let _ = flows.push(given_from(record, *h));
     }

@@ -12,9 +12,7 @@ use super::super::offer_view::OfferView;
 use super::OpenRound;
 use book::line::Line;
 use tables::refusal::Refusal;
-use terms::lines::{
-    has_line_out, has_unknown_item, is_doubled, is_loop, is_out, is_overpriced,
-};
+use terms::lines::{has_line_out, has_unknown_item, is_doubled, is_loop, is_out, is_overpriced};
 
 impl OfferView<'_> {
     fn has_limit_out(&self) -> bool

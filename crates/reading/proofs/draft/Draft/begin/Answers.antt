@@ -29,7 +29,7 @@ returns-in_err-next_entries c =
     let n = c.in_ok-n.n in
     let h = c.in_ok-n.ensures in
     let on = headed Item n x c.args.reader c.next_count.new.reader (h.read x refl) in
-    let fresh : held k (book c.open.result) c.new.result c.new-2.result ≡ with_line item (codes "cash") x = λ i. held k (c.open.ensures.outcome i) (c.new.ensures i) (c.new-2.ensures i) in
+    let fresh : held k (book c.open.result) c.default.result c.default-2.result ≡ with_line item (codes "cash") x = λ i. held k (c.open.ensures.outcome i) (c.default.ensures i) (c.default-2.ensures i) in
     rw (p.1, p.2) (not_begun k n (h.fair.allowed x refl) c.args.reader c.next_count.new.reader on _ c.next_cash.new.reader (c.in_ok-next_cash.ensures x refl) fresh _ c.in_err-next_entries.ensures)
 
 pub returns : goal.returns
@@ -39,6 +39,6 @@ returns c =
     let n = c.in_ok-n.n in
     let h = c.in_ok-n.ensures in
     let on = headed Item n x c.args.reader c.next_count.new.reader (h.read x refl) in
-    let fresh : held k (book c.open.result) c.new.result c.new-2.result ≡ with_line item (codes "cash") x = λ i. held k (c.open.ensures.outcome i) (c.new.ensures i) (c.new-2.ensures i) in
+    let fresh : held k (book c.open.result) c.default.result c.default-2.result ≡ with_line item (codes "cash") x = λ i. held k (c.open.ensures.outcome i) (c.default.ensures i) (c.default-2.ensures i) in
     let g = c.in_ok-next_entries.ensures.0 in
     begun k n (h.fair.allowed x refl) c.args.reader c.next_count.new.reader on _ c.next_cash.new.reader (c.in_ok-next_cash.ensures x refl) fresh c.next_entries.new.self g.onward g.only

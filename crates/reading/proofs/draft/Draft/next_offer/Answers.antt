@@ -54,9 +54,9 @@ after-lines c =
     let g = c.in_ok-give.ensures in
     let w = c.in_ok-get.ensures in
     let more = c.as_slice-4.result.now in
-    let room : length us + length more ≤ 256 = omega (arith, c.in_ok-head.ensures.fair.room, c.len-lines.ensures.count, units_long g, units_long w, ap length c.new-units.ensures, ap length c.as_slice-4.ensures) in
+    let room : length us + length more ≤ 256 = omega (arith, c.in_ok-head.ensures.fair.room, c.len-lines.ensures.count, units_long g, units_long w, ap length c.default-units.ensures, ap length c.as_slice-4.ensures) in
     let row = grew 256 us c.extend.new.self more c.extend.result c.extend.ensures room ∙ ap (λ ns. us ++ ns) c.as_slice-4.ensures in
-    all_read (after-head (goal.at.invariant_of-self-2 c).In_ok-head) g c.as_slice.ensures w b (book c.add_offer.new.round) c.as_slice-2.result.now c.as_slice-3.result.now c.extend.new.self (book_held d.kind b us d.levels) c.as_slice-2.ensures c.as_slice-3.ensures c.add_offer.ensures c.new-units.ensures row
+    all_read (after-head (goal.at.invariant_of-self-2 c).In_ok-head) g c.as_slice.ensures w b (book c.add_offer.new.round) c.as_slice-2.result.now c.as_slice-3.result.now c.extend.new.self (book_held d.kind b us d.levels) c.as_slice-2.ensures c.as_slice-3.ensures c.add_offer.ensures c.default-units.ensures row
 
 pub invariant_of-self-2 : goal.invariant_of-self-2
 invariant_of-self-2 c =

@@ -5,7 +5,7 @@ use Rattle.reading.proofs.Sides.{begin, again, stopped}
 use Rattle.reading.proofs.side.Side.next_lines.Goals as goal
 
 pub loop-init : goal.loop-init
-loop-init c = begin c.args.self.items c.args.self.give.now c.new-lines.result c.args.units.now c.args.reader.now c.new-lines.ensures
+loop-init c = begin c.args.self.items c.args.self.give.now c.default-lines.result c.args.units.now c.args.reader.now c.default-lines.ensures
 
 pub returns-in_err-filled : goal.returns-in_err-filled
 returns-in_err-filled c =

@@ -15,9 +15,7 @@ fn main(rt: HostRuntime) -> anyhow::Result<()> {
     match clear_market() {
         Ok(round) => print_round(&rt, &round),
         Err(refusal) => {
-            let number = refusal.number();
-            let name = refusal.name();
-            eprintln!(rt; "refused {number}: {name}")?;
+            eprintln!(rt; "refused {refusal}")?;
             Err(anyhow!("the market was refused"))
         }
     }

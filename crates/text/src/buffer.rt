@@ -1,4 +1,4 @@
-ghost use Rattle.std.specs.Prelude.{◌≡◌, [], ◌∷◌};
+ghost use Rattle.std.specs.Prelude.{◌≡◌, ◌≤◌, [], ◌∷◌, length};
 ghost use Rattle.text.specs.Buffers.{Put, Copied};
 ghost use Rattle.text.specs.Numbers.{spelt, level_spelt};
 ghost use Rattle.text.specs.Rows.{row_spelt};
@@ -43,6 +43,14 @@ impl Buffer {
         Buffer {
             bytes: Table::default(),
         }
+    }
+
+    // How many bytes were put in.
+    pub fn len(&self) -> usize
+        ensures count { result ≡ length self.now }
+        ensures bound { result ≤ 32768 }
+    {
+        self.bytes.len()
     }
 
     pub fn as_slice(&self) -> &[u8]

@@ -32,12 +32,13 @@ impl Ledger {
     }
 
     // How many trades there are, all of them within the bounds.
-    pub(crate) fn len(&self) -> usize
+    // How many trades there are. Each of them is within its bounds.
+    pub fn len(&self) -> usize
         ensures count { result ≡ length self.now }
         ensures bound { result ≤ 256 }
         ensures sound { all_sound self.now ≡ true }
     {
-        self.trades.len()
+        self.trades.as_slice().len()
     }
 
     // Enters the trade at the end.

@@ -49,6 +49,14 @@ impl Name {
         Name::new(b"cash")
     }
 
+    // How many letters there are.
+    pub fn len(&self) -> usize
+        ensures count { result ≡ length self.now }
+        ensures bound { result ≤ 12 }
+    {
+        self.len
+    }
+
     // The letters.
     pub fn as_slice(&self) -> &[u8]
         ensures { result.now ≡ self.now }

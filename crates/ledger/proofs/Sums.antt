@@ -2,10 +2,9 @@
 use Rattle.std.proofs.Common.{◌≡◌, ℕ, zero, suc, ◌+◌, ◌*◌, ◌<◌, ◌≤◌, Bool, true, false, cond, not, ◌&&◌, ◌||◌, eqb, nat_lt, List, [], ◌∷◌, ◌++◌, map, length, get_or, take, ℤ, pos, neg_ℤ, Ok, Err, Result, sym, refl, ap, ◌∙◌, subst, ap₂, suc-mul, mul-le-mul_left, arith, w64, SFits, to_z, of_z}
 use borrow.Author.Differences.{ints}
 use Rattle.std.specs.List.{AllByRecursion, list_any}
-use Rattle.std.proofs.lemmas.List.Elements.{filter_more}
 use Rattle.std.proofs.ByRecursion.{All-get_or, All-push, all_kept_by}
 use Rattle.std.proofs.lemmas.List.Filters.{length-filter_both}
-use Rattle.std.proofs.lemmas.List.{get_or-map, length-map, length_push, append-nil}
+use Rattle.std.proofs.lemmas.List.{get_or-map, length-map, length_push}
 use Rattle.std.proofs.lemmas.Int.{to_z-of_z}
 use Rattle.std.proofs.lemmas.Bool.Decides.{nat_tests}
 use Rattle.tables.specs.Tables.{Added}
@@ -92,17 +91,6 @@ kept_sound k ts h = sound_each (lines_of k ts) (all_kept_by (λ t. eqb t.offer k
 -- what a list of trades is read with past its end
 abbrev pub blank : Trade
 blank = record { offer = 0; side = Give; price = 0; units = 0; is_week = false }
-
--- the lines of an offer, one trade further on
-pub kept_next : (k : ℕ) (ts : List Trade) (i : ℕ) → i < length ts → (get_or ts i blank).offer ≡ k → lines_of k (take (i + 1) ts) ≡ lines_of k (take i ts) ++ get_or ts i blank ∷ []
-kept_next k ts i within e =
-    let b : eqb (get_or ts i blank).offer k ≡ true = grind (arith, nat_tests) in
-    filter_more (λ t. eqb t.offer k) ts i blank within ∙ ap (λ c. lines_of k (take i ts) ++ cond c (get_or ts i blank ∷ []) []) b
-
-pub skipped_next : (k : ℕ) (ts : List Trade) (i : ℕ) → i < length ts → ((get_or ts i blank).offer ≡ k → ⊥) → lines_of k (take (i + 1) ts) ≡ lines_of k (take i ts)
-skipped_next k ts i within e =
-    let b : eqb (get_or ts i blank).offer k ≡ false = grind (arith, nat_tests) in
-    filter_more (λ t. eqb t.offer k) ts i blank within ∙ ap (λ c. lines_of k (take i ts) ++ cond c (get_or ts i blank ∷ []) []) b ∙ append-nil (lines_of k (take i ts))
 
 above : (n : ℕ) → 0 < n → nat_lt 0 n ≡ true
 above n h = grind (arith, nat_tests)

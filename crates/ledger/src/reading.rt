@@ -10,7 +10,8 @@ use super::words::{is_week, number, side};
 use tables::refusal::Refusal;
 use text::fault::{Fault, at_line};
 
-// The trade that a line spells.
+// The trade that a line spells. It ends as a row of `text` does, but its words are of three sorts, a row's of one: what the two share is the
+// library's `split`.
 pub fn read_trade(line: &[u8]) -> Result<Trade, Refusal>
     ensures { Reads (Spells line.now) result }
 {
@@ -20,16 +21,16 @@ pub fn read_trade(line: &[u8]) -> Result<Trade, Refusal>
     let price = number(words.next().ok_or(Refusal::Layout)?)?;
     let units = number(words.next().ok_or(Refusal::Layout)?)?;
     let is_week = is_week(words.next().ok_or(Refusal::Layout)?)?;
-    match words.next() {
-        None => Ok(Trade {
-            offer,
-            side,
-            price,
-            units,
-            is_week,
-        }),
-        Some(_) => Err(Refusal::Layout),
+    if words.next().is_some() {
+        return Err(Refusal::Layout);
     }
+    Ok(Trade {
+        offer,
+        side,
+        price,
+        units,
+        is_week,
+    })
 }
 
 // Enters the trade that the line spells.

@@ -75,10 +75,13 @@ unit_is o t u p w fits a b e = e ∙ ap (λ z. o.unit z w) (to_z-of_z w64 p fits
 abbrev pub Kept : List Trade → Type 0
 Kept ts = (all_sound ts ≡ true) × (length ts ≤ 256)
 
--- after one trade more, or a refusal, it still does
+-- after one sound trade more, within the bound, it still does
+pub kept_push : (before after : List Trade) (t : Trade) → after ≡ before ++ t ∷ [] → all_sound before ≡ true → length before < 256 → sound t ≡ true → Kept after
+kept_push before after t e h room s = subst Kept (sym e) (sound_each (before ++ t ∷ []) (All-push (λ u. sound u ≡ true) before t (each_sound before h) s), omega (arith, length_push before t))
+
+-- and after an outcome of adding it
 pub still_kept : {n : ℕ} (before after : List Trade) (t : Trade) (r : Result (Unit {0}) Refusal) → Added n before after (t ∷ []) r → all_sound before ≡ true → length before < 256 → sound t ≡ true → Kept after
-still_kept before after t (Ok x) a h room s =
-    subst Kept (sym a.outcome) (sound_each (before ++ t ∷ []) (All-push (λ u. sound u ≡ true) before t (each_sound before h) s), omega (arith, length_push before t))
+still_kept before after t (Ok x) a h room s = kept_push before after t a.outcome h room s
 still_kept before after t (Err e) a h room s = subst Kept (sym a.outcome) (h, omega arith)
 
 -- a trade that was read from sound ones

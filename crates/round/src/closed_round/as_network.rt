@@ -1,5 +1,6 @@
 ghost use Rattle.round.specs.Closed.{closed_net, Alike};
-ghost use Rattle.round.specs.Carrying.{sound_closed, same_refl, same_trans, alike_settled};
+ghost use Rattle.round.specs.Carrying.{sound_closed, alike_settled};
+ghost use Rattle.flow.proofs.Rows.{same_refl, same_trans};
 ghost use Rattle.std.specs.Prelude.{refl};
 ghost use Rattle.std.proofs.Common.{◌∙◌};
 

@@ -13,7 +13,8 @@ use round::open_round::OpenRound;
 use tables::table::Table;
 use text::fault::Fault;
 
-// Adds an offer that keeps the rules, so that the round does not refuse it. One with the limit 0 is made with the limit 1 and withdrawn.
+// Adds an offer that keeps the rules, so that the round does not refuse it.
+// The exchange's records mark a withdrawn offer by the limit 0, which no offer is made with: it is made with the limit 1 and withdrawn.
 fn add_offer(round: &mut OpenRound, head: OfferHead, give: &[Line], get: &[Line])
     ensures { OfferAdded (book round.old) (book round.new) (made head.member head.limit give.now get.now) }
 {
@@ -36,11 +37,11 @@ impl Draft<'_> {
         let head = next_offer_head(&mut self.reader, members, lines)?;
         // Its units are kept apart until the round has it, so that the draft stays whole where the text is refused in between.
         let mut units = Table::default();
-        let gives = Side { items, give: &[] };
+        let gives = Side { items, other: &[] };
         let give = gives.next_lines(&mut self.reader, head.gives, &mut units)?;
         let gets = Side {
             items,
-            give: give.as_slice(),
+            other: give.as_slice(),
         };
         let get = gets.next_lines(&mut self.reader, head.gets, &mut units)?;
         add_offer(&mut self.round, head, give.as_slice(), get.as_slice());

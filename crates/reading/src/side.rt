@@ -81,8 +81,8 @@ impl Side<'_> {
         let mut lines = Table::default();
         for _ in 0..n {
             let filled = self.next_line(reader, lines.as_slice())?;
-            let _ = lines.push(filled.line);
-            let _ = units.push(filled.units);
+            lines.push(filled.line).unwrap();
+            units.push(filled.units).unwrap();
         }
         Ok(lines)
     }

@@ -1,18 +1,13 @@
 -- The lines of levels.
-use Rattle.std.proofs.Common.{◌≡◌, ℕ, List, [], ◌∷◌, ◌++◌, map, length, get_or, ℤ, pos, Some, None, Ok, Err, Result, sym, refl, ap, ◌∙◌, subst, inr, arith}
-use Rattle.std.proofs.lemmas.List.{map_push}
+use Rattle.std.proofs.Common.{◌≡◌, ℕ, List, [], ◌∷◌, length, get_or, ℤ, pos, Some, None, Ok, Err, Result, sym, refl, ap, ◌∙◌, subst, inr, arith}
 use Rattle.tables.specs.Refusals.{number, First}
 use Rattle.tables.specs.declared.refusal.Refusal.{Refusal}
 use Rattle.tables.proofs.Firsts.{here, next}
 use Rattle.text.specs.Numbers.{signed}
 use Rattle.text.specs.Rows.{SpellsRow}
-use Rattle.book.specs.Books.{Book}
-use Rattle.layout.specs.Layout.{level, Short, spell, Fits, rules, with_line}
+use Rattle.layout.specs.Layout.{level, Short, spell, Fits, rules}
 use Rattle.layout.specs.Records.{Kind, by_money, by_money_then_weeks, Contents, parts}
-use Rattle.reading.specs.Held.{held}
-use Rattle.reading.specs.Kinds.{kind as kind_as}
-use Rattle.reading.specs.Levels.{numbers, with_levels, LevelTested}
-use Rattle.reading.specs.declared.kind.Kind.{Kind as Told}
+use Rattle.reading.specs.Levels.{numbers, LevelTested}
 use Rattle.reading.specs.declared.level.Level.{Level}
 use Rattle.reading.proofs.Steps.{Lies, Judged}
 
@@ -49,10 +44,3 @@ pub level_judged : (k : Kind) (x : Contents) → x.kind ≡ k → (bytes : List 
 level_judged k x e bytes l i (Ok m) (same, fair) =
     subst (λ v. Lies level x (IsLevel k) l (numbers k v) × First (rules level x (numbers k v)) None) (sym same) (record { spells = λ bytes s. s.spelling; fits = level_fits k x e bytes l i }, next (λ p. omega arith) refl)
 level_judged k x e bytes l i (Err d) (same, large) = inr (numbers k l, record { spells = λ bytes s. s.spelling; fits = level_fits k x e bytes l i }, subst (λ d. First (rules level x (numbers k l)) (Some (number d))) (sym same) (here large))
-
--- one level more
-pub level_held : (k : Told) (b : Book) (us : List ℕ) (ls all : List Level) (v : Level) → all ≡ ls ++ v ∷ [] → with_line level (numbers (kind_as k) v) (held k b us ls) ≡ held k b us all
-level_held k b us ls all v e =
-    let n = numbers (kind_as k) in
-    let zs : map n ls ++ n v ∷ [] ≡ map n all = sym (map_push n ls v) ∙ ap (map n) (sym e) in
-    ap (with_levels (held k b us ls)) zs

@@ -18,7 +18,7 @@ use worth::lexicographic::Lexicographic;
 use worth::money::Money;
 use worth::weeks::Weeks;
 
-// The level of a row of one number.
+// The level of a row of one number. It is no closure, since of one that takes an array nothing is inferred.
 fn in_money(row: [i64; 1]) -> Level
     ensures { numbers by_money result ≡ row }
 {
@@ -26,7 +26,7 @@ fn in_money(row: [i64; 1]) -> Level
     Level { cents, weeks: 0 }
 }
 
-// The level of a row of two.
+// The level of a row of two, likewise.
 fn in_both(row: [i64; 2]) -> Level
     ensures { numbers by_money_then_weeks result ≡ row }
 {

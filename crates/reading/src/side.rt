@@ -19,7 +19,7 @@ pub(crate) struct FilledLine {
 }
 
 // A side of an offer over so many items, and the lines that the other side has so far.
-// The side that it gives comes first, so that none of the other side are there yet; cash on both sides is one test for either.
+// What it gives is read first, when there are none of these yet. So the test for cash on both sides is one for either.
 #[derive(Clone, Copy)]
 pub(crate) struct Side<'a> {
     pub(crate) items: u32,
@@ -32,7 +32,7 @@ impl Side<'_> {
         ensures { LineTested self.entry.items self.entry.other.now above.now numbers result }
     {
         let [item, limit, price, units] = numbers;
-        // The bounds are tested before the numbers, of up to 13 digits, are cut to the 32 bits that a line has; the tests of `terms` take lines.
+        // The bounds are tested before the numbers, of up to 13 digits, are cut to the 32 bits of a line; those of `terms` take what is cut already.
         if item >= u64::from(self.items) {
             return Err(Refusal::Unknown);
         }

@@ -1,6 +1,4 @@
-use Rattle.std.proofs.Common.{◌≡◌, subst, arith}
 use Rattle.std.proofs.lemmas.Result.{err_from_is_err_and}
-use Rattle.reading.specs.Offers.{LinesRead}
 use Rattle.reading.proofs.Sides.{begin, again, stopped}
 use Rattle.reading.proofs.side.Side.next_lines.Goals as goal
 
@@ -16,9 +14,3 @@ pub loop-preserved : goal.loop-preserved
 loop-preserved c =
     let h = c.in_ok-filled.ensures in
     again c.args.self.items c.args.self.other.now c.loop.invariant c.loop-test.true c.as_slice.ensures c.in_ok-filled.filled c.requires h.fair h.read c.push.result c.push-in-loop.result c.push.ensures c.push-in-loop.ensures
-
-pub returns : goal.returns
-returns c =
-    let s = c.args.self in
-    let all : c.loop.counter ≡ c.args.n = omega arith in
-    subst (λ n. LinesRead s.items s.other.now n c.loop.lines c.args.units.now c.loop.units c.args.reader.now c.loop.reader) all c.loop.invariant

@@ -1,4 +1,4 @@
-ghost use Rattle.std.specs.Prelude.{◌≡◌, length, Ok};
+ghost use Rattle.std.specs.Prelude.{◌≡◌, [], length, Ok};
 ghost use Rattle.search.specs.Outcomes.{Improving};
 ghost use Rattle.search.specs.Uses.{Law};
 
@@ -12,16 +12,16 @@ use tables::refusal::Refusal;
 use tables::table::Table;
 use worth::kind::Worth;
 
-// The arcs of a network, read into a table, since the search reads each of them many times.
-fn read_arcs<N: Network>(net: &N) -> Table<Arc, 448>
-    ensures { result ≡ (N.Network.net net.now).arcs }
+// Reads the arcs of a network into a table, since the search reads each of them many times. The table is lent: where it was
+// answered it was copied once more, and small networks took nearly twice as long to clear.
+fn read_arcs<N: Network>(net: &N, table: &mut Table<Arc, 448>)
+    requires { table.old ≡ [] }
+    ensures { table.new ≡ (N.Network.net net.now).arcs }
 {
-    let mut table = Table::default();
     for arc in net.arcs() {
         // a network has no more arcs than the table has room for
         let _ = table.push(arc);
     }
-    table
 }
 
 // Improves by one cycle, where the work table has just one entry for each node.
@@ -30,7 +30,8 @@ fn improve_within<N: Improvable>(net: &mut N, work: &mut [N::W]) -> Option<N::W>
     ensures outcome { Improving N.W.Worth.ops (N.Network.net net.old) (N.Network.net net.new) work.old work.new (Ok result) }
     ensures kept { N.Improvable.alike net.old net.new }
 {
-    let table = read_arcs(net);
+    let mut table = Table::default();
+    read_arcs(net, &mut table);
     let residual = Residual {
         nodes: work.len(),
         arcs: table.as_slice(),

@@ -13,7 +13,6 @@ use Rattle.text.specs.declared.line.Line.TheVariants as line
 use Rattle.text.specs.declared.line.Sort.{Sort}
 use Rattle.text.specs.declared.line.Sort.TheVariants as sort
 use Rattle.text.specs.declared.reader.Reader.{Reader}
-use Rattle.text.specs.declared.row.Row.{Row}
 use Rattle.text.specs.declared.section.Section.{Section}
 use Rattle.text.specs.declared.section.Section.TheVariants.{Kinds, Items, Members, Holdings, Offers, Levels}
 use Rattle.text.proofs.Cuts.{first_once}
@@ -98,9 +97,3 @@ pub row_from : {X : Type 0} (notation : Notation X) (n : ℕ) (l : Line) (bytes 
 row_from notation n (line.Head s m) bytes p xs i = absurd (cc p.sorted)
 row_from notation n (line.Name x) bytes p xs i = absurd (cc p.sorted)
 row_from notation n (line.Row y) bytes p xs i = (xs, record { row = y; is = refl; spells = subst (λ bs. SpellsRow notation n bs xs) p.bytes_are i })
-
--- the numbers of a row are those of its line
-pub row_numbers : {X : Type 0} (notation : Notation X) (n : ℕ) (l : Line) (row : Row) → l ≡ line.Row row → (r : Result (List X) Refusal) → Reads (SpellsRow notation n row.bytes.now) r → Reads (RowOf notation n l) r
-row_numbers notation n l row e (Ok xs) h = record { row = row; is = e; spells = h }
-row_numbers notation n l row e (Err d) h =
-    (h.0, λ xs q. let s : line.Row row ≡ line.Row q.row = sym e ∙ q.is in let t : row ≡ q.row = cc in h.1 xs (subst (λ w. SpellsRow notation n w.bytes.now xs) (sym t) q.spells))

@@ -5,7 +5,7 @@ use Rattle.worth.specs.Kinds.{Ops, Laws}
 use Rattle.flow.specs.Groups.{times, total}
 use Rattle.flow.specs.declared.arc.Arc.{Arc}
 use Rattle.flow.specs.Arcs.{arc_at}
-use Rattle.network.specs.Networks.{Net, Sound, SoundArc}
+use Rattle.network.specs.Networks.{Net, Sound, SoundArc, value}
 use Rattle.network.proofs.Reading.{Next, sound_arc}
 
 -- a small product
@@ -35,6 +35,9 @@ module _ {W : Type 0} {o : Ops W} (laws : Laws o) where
   below_small n s (suc i) h =
       let a = arc_at n.arcs i in
       omega (arith, laws.size_plus (value_below o n i) (arc_worth o a), below_small n s i (omega arith), arc_small a (s.each i (omega arith)))
+
+  pub value_small : (n : Net) → Sound n → o.size (value o n) ≤ 448000
+  value_small n s = omega (arith, below_small n s (length n.arcs) (omega arith), s.few_arcs)
 
   -- the next arc, after those seen and their worth
   module _ {n : Net} {seen : List Arc} {a : Arc} (sound : Sound n) (next : Next n seen a) {sum x : W} (so_far : sum ≡ value_below o n (length seen)) (is : x ≡ o.times a.flow (o.unit a.price a.weeks)) where

@@ -18,6 +18,7 @@ pub fn worth<N: Network, W: Worth>(net: &N) -> W
     ensures { result ≡ value W.Worth.ops (N.Network.net net.now) }
 {
     let mut sum = W::none();
+    // A `fold` is no plainer: `plus` has a bound, so its closure would need a clause that bounds the sum so far.
     for arc in net.arcs() {
         sum = sum.plus(arc_worth(arc));
     }

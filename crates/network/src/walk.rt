@@ -28,6 +28,7 @@ impl<'a, N: Network> Iterator for Arcs<'a, N> {
 
     ghost remaining = { item_count (λ rest. rest) };
 
+    // A network is asked for its arcs by number; this count is what makes an iterator of that.
     fn next(&mut self) -> Option<Arc> {
         let arc = self.net.arc(self.next).ok()?;
         self.next += 1;

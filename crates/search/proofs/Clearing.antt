@@ -1,50 +1,19 @@
 -- Clearing, rise by rise.
-use Rattle.std.proofs.Common.{◌≡◌, ℕ, zero, suc, ◌+◌, ◌*◌, ◌<◌, ◌≤◌, List, length, Ok, Err, Result, sym, refl, ap, ◌∙◌, subst, suc-mul, mul-le-mul, arith, None, Option, Some}
+use Rattle.std.proofs.Common.{◌≡◌, ◌+◌, ◌<◌, ◌≤◌, List, length, Ok, Err, Result, sym, refl, ap, ◌∙◌, subst, arith, None, Option, Some}
 use Rattle.worth.specs.Kinds.{Ops, Laws}
 use Rattle.tables.specs.declared.refusal.Refusal.{Refusal}
-use Rattle.flow.specs.Groups.{Kind, kind, times, total}
-use Rattle.flow.specs.Arcs.{arc_at}
+use Rattle.flow.specs.Groups.{kind}
 use Rattle.flow.proofs.Group.{unit_right}
-use Rattle.network.specs.Networks.{Net, Sound, flow_in, graph, value}
+use Rattle.network.specs.Networks.{Net, Sound, graph, value}
+use Rattle.network.proofs.Worths.{value_small}
 use Rattle.network.specs.Potentials.{Fitted}
 use Rattle.search.specs.Outcomes.{Climb, still, more, Idle, Beyond, Improving, Clearing}
 use Rattle.search.proofs.Standing.{climb_value}
 use Rattle.search.proofs.Beaten.{beats, measure_falls}
 
-module _ {W : Type 0} (G : Kind W) where
-  -- how large worths and rises can be
-  size_times : (n : ℕ) (x : W) → G.ops.size (times G.ops n x) ≤ n * G.ops.size x
-  size_times zero x = omega (arith, G.laws.size_none)
-  size_times (suc n) x = omega (arith, G.laws.size_plus x (times G.ops n x), size_times n x, suc-mul n (G.ops.size x))
-
-  size_total : (n : ℕ) (f : ℕ → W) → ((i : ℕ) → i < n → G.ops.size (f i) ≤ 1000) → G.ops.size (total G.ops n f) ≤ 1000 * n
-  size_total zero f h = omega (arith, G.laws.size_none)
-  size_total (suc n) f h = omega (arith, G.laws.size_plus (total G.ops n f) (f n), size_total n f (λ i l. h i (omega arith)), h n (omega arith))
-
-  pub value_small : (n : Net) → Sound n → G.ops.size (value G.ops n) ≤ 448000
-  value_small n z =
-      let a = size_total (length n.arcs) (λ i. times G.ops (flow_in n i) ((graph G.ops n).unit i)) each in
-      let b = z.few_arcs in
-      omega arith
-    where
-      each : (i : ℕ) → i < length n.arcs → G.ops.size (times G.ops (flow_in n i) ((graph G.ops n).unit i)) ≤ 1000
-      each i l =
-          let s = z.each i l in
-          let a = size_times (flow_in n i) ((graph G.ops n).unit i) in
-          let h = s.held in
-          let k = s.small in
-          let f : flow_in n i ≤ 1000 = omega arith in
-          let b = mul-le-mul f (G.laws.size_unit (arc_at n.arcs i).price (arc_at n.arcs i).weeks s.low s.high s.light) in
-          omega arith
-
-  pub less_small : (s t : Net) (x : W) → Sound s → Sound t → x ≡ G.ops.plus (value G.ops t) (G.ops.neg (value G.ops s)) → G.ops.size x ≤ 896000
-  less_small s t x p q e =
-      let a = value_small s p in
-      let b = value_small t q in
-      let c = ap G.ops.size e in
-      let d = G.laws.size_plus (value G.ops t) (G.ops.neg (value G.ops s)) in
-      let f = G.laws.size_neg (value G.ops s) in
-      omega arith
+-- how large rises can be
+pub less_small : {W : Type 0} {o : Ops W} (laws : Laws o) (s t : Net) (x : W) → Sound s → Sound t → x ≡ o.plus (value o t) (o.neg (value o s)) → o.size x ≤ 896000
+less_small {o = o} laws s t x p q e = omega (arith, value_small laws s p, value_small laws t q, ap o.size e, laws.size_plus (value o t) (o.neg (value o s)), laws.size_neg (value o s))
 
 pub climb_nodes : {W : Type 0} {o : Ops W} {s t : Net} {sum : W} → Climb o s sum t → t.nodes ≡ s.nodes
 climb_nodes still = refl
@@ -85,10 +54,10 @@ module _ {W : Type 0} {o : Ops W} (laws : Laws o) {s t : Net} {work work₁ : Li
     goes_on sum' e = record { climb = subst (λ x. Climb o s x u) (sym e) (more w.climb rose.0); beyond = beyond_on rose.2 }
 
     pub can_add : Sound s → Sound t → Sound u → o.size sum + o.size rise ≤ 4194304
-    can_add p q z = omega (arith, sum_small, less_small (kind o laws) t u rise q z rose.0.rises)
+    can_add p q z = omega (arith, sum_small, less_small laws t u rise q z rose.0.rises)
       where
         sum_small : o.size sum ≤ 896000
-        sum_small = less_small (kind o laws) s t sum p q (sym (ap (λ y. o.plus y (o.neg (value o s))) (climb_value laws w.climb ∙ laws.comm (value o s) sum) ∙ laws.assoc sum (value o s) (o.neg (value o s)) ∙ ap (o.plus sum) (laws.inverse (value o s)) ∙ unit_right (kind o laws) sum))
+        sum_small = less_small laws s t sum p q (sym (ap (λ y. o.plus y (o.neg (value o s))) (climb_value laws w.climb ∙ laws.comm (value o s) sum) ∙ laws.assoc sum (value o s) (o.neg (value o s)) ∙ ap (o.plus sum) (laws.inverse (value o s)) ∙ unit_right (kind o laws) sum))
 
     pub fewer_left : Sound u → beats o (graph o u) (value o u) < beats o (graph o t) (value o t)
     fewer_left z = measure_falls (kind o laws) t u rise z rose.0

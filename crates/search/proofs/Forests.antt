@@ -15,10 +15,10 @@ use Rattle.flow.proofs.Group.{shift, unit_right, lt_le, le_eq, le_trans, le_righ
 use Rattle.flow.proofs.Holes.{pigeonhole}
 use Rattle.flow.proofs.Cuts.{visits, visits_length, visits_in}
 use Rattle.flow.proofs.Reach.{reach, walk_under}
-use Rattle.network.specs.Networks.{SoundArc}
 use Rattle.network.specs.Potentials.{potential}
 use Rattle.search.specs.Links.{SoundArcs, tail_of, head_of, link, Unlinked, Linked, Up, line, Rooted, Trail, onto}
 use Rattle.search.specs.Sweeps.{offer, Joined, Forest}
+use Rattle.search.proofs.Steps.{bounded}
 use Rattle.search.proofs.Ways.{none_some, same_some, one_way}
 
 -- a link set, and the others
@@ -75,12 +75,12 @@ module _ {W : Type 0} (G : Kind W) (n : ℕ) (ls : List Arc) where
   head_in z (Forward i) l = (z i l).to_in
   head_in z (Backward i) l = (z i l).from_in
 
-  pub unit_small : (a : Arc) → SoundArc n a → G.ops.size (G.ops.unit a.price a.weeks) ≤ 1
-  unit_small a s = G.laws.size_unit a.price a.weeks s.low s.high s.light
+  unit_small : SoundArcs n ls → (i : ℕ) → G.ops.size (N.unit i) ≤ 1
+  unit_small z i = let a = bounded n ls z i in G.laws.size_unit (arc_at ls i).price (arc_at ls i).weeks a.low a.high a.light
 
-  pub step_small : SoundArcs n ls → (s : Step) → arc s < length ls → G.ops.size (step_worth G.ops N s) ≤ 1
-  step_small z (Forward i) l = unit_small (arc_at ls i) (z i l)
-  step_small z (Backward i) l = omega (arith, G.laws.size_neg (N.unit i), unit_small (arc_at ls i) (z i l))
+  pub step_small : SoundArcs n ls → (s : Step) → G.ops.size (step_worth G.ops N s) ≤ 1
+  step_small z (Forward i) = unit_small z i
+  step_small z (Backward i) = omega (arith, G.laws.size_neg (N.unit i), unit_small z i)
 
   -- before anything is raised
   pub bare : (xs : List W) (ks : List (Option Step)) → SoundArcs n ls → length xs ≡ n → n ≤ length ks → ((v : ℕ) → potential G.ops xs v ≡ G.ops.none) → Unlinked ks → Forest G.ops n ls xs ks

@@ -1,3 +1,4 @@
+pub mod Steps
 pub mod Ways
 pub mod Forests
 pub mod Rounds

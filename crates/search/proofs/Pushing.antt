@@ -12,15 +12,15 @@ use Rattle.flow.specs.declared.step.Step.{Step}
 use Rattle.flow.specs.declared.step.Step.TheVariants.{Forward, Backward}
 use Rattle.flow.proofs.Group.{unit_right}
 use Rattle.flow.proofs.Rows.{same_arc_refl, net_same}
-use Rattle.flow.proofs.Shift.{fore_capacity, rear_capacity, rise_holds}
+use Rattle.flow.proofs.Shift.{allows_one, fore_capacity, rear_capacity, rise_holds}
 use Rattle.network.specs.Networks.{Net, flow_in, graph, value}
 use Rattle.search.specs.Links.{SoundArcs, onto}
-use Rattle.search.specs.Cycles.{Takes, taken}
+use Rattle.search.specs.Cycles.{Measured, Takes, taken}
 use Rattle.search.specs.Outcomes.{Improves}
 use Rattle.search.specs.declared.cycle.Cycle.{Cycle}
-use Rattle.search.specs.Searches.{net_of, round, Measures}
-use Rattle.search.proofs.Ways.{Known}
-use Rattle.search.proofs.Rounds.{round_is, round_known, onto_allows, residual_small}
+use Rattle.search.specs.Searches.{net_of, round}
+use Rattle.search.proofs.Steps.{has_arc}
+use Rattle.search.proofs.Rounds.{round_is, onto_allows, residual_small}
 
 -- a list of arcs with the flow of one changed
 put_arcs : List Arc → ℕ → ℕ → List Arc
@@ -52,7 +52,6 @@ no_more d f b e = ap (λ c. d * (when c 1 + f)) e ∙ ap (◌*◌ d) (omega arit
 pub record Pushing {W : Type 0} (o : Ops W) (y : Cycle) (rest : List Step) (d : ℕ) (m : Net) : Type 0 where
   pub done : List Step
   pub whole : onto rest done ≡ onto (round y) []
-  pub known : Known y.links.net.arcs.now rest
   pub nodes : m.nodes ≡ y.links.net.nodes
   pub arcs : SameArcs y.links.net.arcs.now m.arcs
   pub shifted : Shifted (net o y.links.net.nodes y.links.net.arcs.now) (flow_of y.links.net.arcs.now) done d (flow_in m)
@@ -127,7 +126,7 @@ module _ {W : Type 0} (G : Kind W) (n : ℕ) (ls : List Arc) (d : ℕ) where
       let f = s.long in
       (omega arith, omega arith)
 
-module _ {W : Type 0} (G : Kind W) (y : Cycle) {d : ℕ} {w : W} (z : Measures G.ops y d w) where
+module _ {W : Type 0} (G : Kind W) (y : Cycle) {d : ℕ} {w : W} (z : Measured G.ops y.links.net.nodes y.links.net.arcs.now y.links.last.now y.closing d w) where
   abbrev ls : List Arc
   ls = y.links.net.arcs.now
 
@@ -144,8 +143,11 @@ module _ {W : Type 0} (G : Kind W) (y : Cycle) {d : ℕ} {w : W} (z : Measures G
   amount_small : d ≤ 1000
   amount_small =
       let a = (onto_allows M (flow_of ls) d z.closing.trail (y.closing ∷ []) z.most.allowed).0 in
-      let b = residual_small G.ops y.links.net.nodes ls y.links.net.sound.each y.closing z.closing.known in
+      let b = residual_small G.ops y.links.net.nodes ls y.links.net.sound.each y.closing in
       omega arith
+
+  some_amount : 1 ≤ d
+  some_amount = z.most.most 1 (allows_one M (flow_of ls) z.closing.gainful.node c z.closing.gainful.node z.closing.gainful.closed)
 
   pub rise_fits : d * G.ops.size w ≤ 4194304
   rise_fits = let b = mul-le-mul amount_small z.small in omega arith
@@ -154,7 +156,6 @@ module _ {W : Type 0} (G : Kind W) (y : Cycle) {d : ℕ} {w : W} (z : Measures G
   pushing_first e is = subst₂ (λ q k. Pushing G.ops y q d k) (sym e) is (record {
     done = [];
     whole = refl;
-    known = round_known y z.closing;
     nodes = refl;
     arcs = record { long = refl; each = λ i l. same_arc_refl (arc_at ls i) };
     shifted = λ i h. refl;
@@ -165,18 +166,24 @@ module _ {W : Type 0} (G : Kind W) (y : Cycle) {d : ℕ} {w : W} (z : Measures G
     on : Pushing G.ops y (t ∷ rest) d m
     on = subst (λ q. Pushing G.ops y q d m) e b
 
+    whole : onto rest (t ∷ on.done) ≡ c
+    whole = on.whole ∙ whole_is
+
+    allowed : Allows M (flow_of ls) (t ∷ on.done) d
+    allowed = onto_allows M (flow_of ls) d rest (t ∷ on.done) (subst (λ q. Allows M (flow_of ls) q d) (sym whole) z.most.allowed)
+
+    known : arc t < length ls
+    known = has_arc ls t (omega (arith, allowed.0, some_amount))
+
     pub next_takes : Takes m d t
-    next_takes =
-        let is = on.whole ∙ whole_is in
-        takes G y.links.net.nodes ls d y.links.net.sound.each m on.done t on.arcs on.shifted on.known.0 (onto_apart G y.links.net.nodes ls d rest (t ∷ on.done) (subst (λ q. Apart (starts M q)) (sym is) z.closing.gainful.apart)) (onto_allows M (flow_of ls) d rest (t ∷ on.done) (subst (λ q. Allows M (flow_of ls) q d) (sym is) z.most.allowed))
+    next_takes = takes G y.links.net.nodes ls d y.links.net.sound.each m on.done t on.arcs on.shifted known (onto_apart G y.links.net.nodes ls d rest (t ∷ on.done) (subst (λ q. Apart (starts M q)) (sym whole) z.closing.gainful.apart)) allowed
 
     pub pushing_next : {m' : Net} → m' ≡ taken m d t → Pushing G.ops y rest d m'
     pushing_next is = subst (λ k. Pushing G.ops y rest d k) (sym is) (record {
       done = t ∷ on.done;
       whole = on.whole;
-      known = on.known.1;
       nodes = took_nodes G y.links.net.nodes ls d m t ∙ on.nodes;
-      arcs = took_same G y.links.net.nodes ls d m t on.known.0 on.arcs;
+      arcs = took_same G y.links.net.nodes ls d m t known on.arcs;
       shifted = took_shift G y.links.net.nodes ls d m on.done on.shifted t next_takes;
     })
 

@@ -1,7 +1,8 @@
 -- Steps relaxed one after another, and sweep after sweep.
 use Rattle.std.proofs.Common.{get_or, ◌≡◌, ℕ, zero, suc, [], ◌∷◌, ◌+◌, ◌*◌, ◌<◌, ◌≤◌, Bool, true, false, ◌||◌, List, length, set, Some, Option, sym, refl, ap, ◌∙◌, subst, ap₂, subst₂, ⊎_elim, arith}
 use Rattle.std.proofs.lemmas.Bool.{cases_eq, true≢false, cases_lt}
-use Rattle.std.proofs.lemmas.List.{get_or-set_same, get_or-set_other}
+use Rattle.std.proofs.lemmas.List.{get_or-set_same, get_or-set_other, get_or_default}
+use Rattle.std.specs.Bool.{then_some}
 use Rattle.flow.specs.Groups.{Kind, Lt, Le}
 use Rattle.flow.specs.Graphs.{Graph, Sound}
 use Rattle.flow.specs.Arcs.{net, flow_of}
@@ -19,6 +20,7 @@ use Rattle.search.specs.Searches.{Same, Growing}
 use Rattle.search.specs.declared.sweep.Search.{Search}
 use Rattle.search.specs.declared.links.Links.{Links}
 use Rattle.worth.specs.Kinds.{Ops}
+use Rattle.search.proofs.Steps.{has_arc}
 use Rattle.search.proofs.Forests.{tail_in, head_in, step_small, forest_linked, forest_rooted, way_short, under, closes, grown}
 
 arc_code : (s : Step) (m : ℕ) → arc s < m → code s < 2 * m
@@ -55,34 +57,65 @@ module _ {W : Type 0} (G : Kind W) {s : Search W} {b : ℕ} (grows : Growing G.o
   abbrev ls : List Arc
   ls = s.net.arcs.now
 
-  pub linked : Linked ls s.links
+  linked : Linked ls s.links
   linked = forest_linked G s.net.nodes ls s.potentials.now s.links grows.forest
 
-  module _ (t : Step) (known : arc t < length ls) where
+  -- a step that can take something
+  module _ (t : Step) (can : 0 < residual_of ls t) where
+    known : arc t < length ls
+    known = has_arc ls t can
+
+    pub to_node : head_of ls t < s.net.nodes
+    to_node = head_in G s.net.nodes ls grows.forest.sound t known
+
+    from_node : tail_of ls t < s.net.nodes
+    from_node = tail_in G s.net.nodes ls grows.forest.sound t known
+
     -- from its tail there is a way up
     pub rooted : Rooted ls s.links (tail_of ls t)
-    rooted = forest_rooted G s.net.nodes ls s.potentials.now s.links grows.forest (tail_of ls t) (tail_in G s.net.nodes ls grows.forest.sound t known)
+    rooted = forest_rooted G s.net.nodes ls s.potentials.now s.links grows.forest (tail_of ls t) from_node
 
-    module _ {o : W} (offered : Offered G.ops s.net.nodes ls s.potentials.now t (Some o)) where
-      more : Lt G.ops (potential G.ops s.potentials.now (head_of ls t)) (offer G.ops s.net.nodes ls s.potentials.now t)
-      more = subst (Lt G.ops (potential G.ops s.potentials.now (head_of ls t))) offered.1 offered.2
+    -- what is read at a node, whatever default it is read with
+    read : (v k : ℕ) (d : W) → v ≡ k → k < s.net.nodes → get_or s.potentials.now v d ≡ potential G.ops s.potentials.now k
+    read v k d is l = get_or_default s.potentials.now v d G.ops.none (omega (arith, grows.forest.potentials_long)) ∙ ap (potential G.ops s.potentials.now) is
 
-      -- whether its head is on its own way up, as a view of the links tells it
-      module _ (l : Links) (net-is : l.net ≡ s.net) (last-is : l.last.now ≡ s.links) {from to : ℕ} (from-is : from ≡ tail_of ls t) (to-is : to ≡ head_of ls t) {r : Bool} (told : Told l.net.arcs.now l.last.now from to r) where
-        told_here : Told ls s.links (tail_of ls t) (head_of ls t) r
-        told_here = subst₂ (λ v x. Told ls s.links v x r) from-is to-is (subst₂ (λ k js. Told k.arcs.now js from to r) net-is last-is told)
+    -- what is read at its tail, and what it is worth
+    module _ {from : ℕ} (from-is : from ≡ tail_of ls t) (here : W) {worth : W} (worth-is : worth ≡ step_worth G.ops (net G.ops s.net.nodes ls) t) where
+      pub can_add : b ≤ 1000000 → G.ops.size (get_or s.potentials.now from here) + G.ops.size worth ≤ 4194304
+      can_add few = omega (arith, ap G.ops.size (read from (tail_of ls t) here from-is from_node), grows.small (tail_of ls t), ap G.ops.size worth-is, step_small G s.net.nodes ls grows.forest.sound t)
 
-        pub closed : r ≡ true → Closing G.ops s.net.nodes ls s.links t
-        closed e =
-            let q = rooted.0 in
-            let c = closes G s.net.nodes ls s.potentials.now s.links grows.forest t (known, offered.0) more q rooted.1 (λ fresh. true≢false (sym e ∙ (told_here q rooted.1).1 fresh)) in
-            record { linked = linked; known = known; trail = c.trail; climbs = c.climbs; short = let p = c.short in let h = way_short G s.net.nodes ls s.potentials.now s.links grows.forest (tail_of ls t) q (tail_in G s.net.nodes ls grows.forest.sound t known) rooted.1 in omega arith; gainful = c.gainful }
+      pub offers : {to : ℕ} → to ≡ head_of ls t → (there : W) {x : W} → x ≡ G.ops.plus (get_or s.potentials.now from here) worth → {more : Bool} → more ≡ G.ops.less (get_or s.potentials.now to there) x → Offered G.ops s.net.nodes ls s.potentials.now t (then_some more x)
+      offers {to} to-is there {x} x-is {more} more-is = go more (sym (more-is ∙ ap₂ G.ops.less (read to (head_of ls t) there to-is to_node) is))
+        where
+          is : x ≡ offer G.ops s.net.nodes ls s.potentials.now t
+          is = x-is ∙ ap₂ G.ops.plus (read from (tail_of ls t) here from-is from_node) worth-is
 
-        pub raised : r ≡ false → Relaxed G.ops s.net.nodes ls s.potentials.now s.links (set s.potentials.now to o) (set s.links to (Some t)) t (Continue true)
-        raised e =
-            let xs-set = ap₂ (set s.potentials.now) to-is offered.1 in
-            let ks-set = ap (λ v. set s.links v (Some t)) to-is in
-            (more, xs-set, ks-set, subst₂ (Forest G.ops s.net.nodes ls) (sym xs-set) (sym ks-set) (grown G s.net.nodes ls s.potentials.now s.links grows.forest t (known, offered.0) more rooted.0 rooted.1 ((told_here rooted.0 rooted.1).0 e)))
+          go : (r : Bool) → G.ops.less (potential G.ops s.potentials.now (head_of ls t)) (offer G.ops s.net.nodes ls s.potentials.now t) ≡ r → Offered G.ops s.net.nodes ls s.potentials.now t (then_some r x)
+          go true e = (can, is, subst (Lt G.ops (potential G.ops s.potentials.now (head_of ls t))) (sym is) e)
+          go false e = λ l. e
+
+  -- a step that offers more than there is
+  module _ (t : Step) {o : W} (offered : Offered G.ops s.net.nodes ls s.potentials.now t (Some o)) where
+    more : Lt G.ops (potential G.ops s.potentials.now (head_of ls t)) (offer G.ops s.net.nodes ls s.potentials.now t)
+    more = subst (Lt G.ops (potential G.ops s.potentials.now (head_of ls t))) offered.1 offered.2
+
+    -- whether its head is on its own way up, as a view of the links tells it
+    module _ (l : Links) (net-is : l.net ≡ s.net) (last-is : l.last.now ≡ s.links) {from to : ℕ} (from-is : from ≡ tail_of ls t) (to-is : to ≡ head_of ls t) {r : Bool} (told : Told l.net.arcs.now l.last.now from to r) where
+      told_here : Told ls s.links (tail_of ls t) (head_of ls t) r
+      told_here = subst₂ (λ v x. Told ls s.links v x r) from-is to-is (subst₂ (λ k js. Told k.arcs.now js from to r) net-is last-is told)
+
+      pub closed : r ≡ true → Closing G.ops s.net.nodes ls s.links t
+      closed e =
+          let up = rooted t offered.0 in
+          let q = up.0 in
+          let c = closes G s.net.nodes ls s.potentials.now s.links grows.forest t (known t offered.0, offered.0) more q (rooted t offered.0).1 (λ fresh. true≢false (sym e ∙ (told_here q (rooted t offered.0).1).1 fresh)) in
+          record { linked = linked; known = known t offered.0; trail = c.trail; climbs = c.climbs; short = let p = c.short in let h = way_short G s.net.nodes ls s.potentials.now s.links grows.forest (tail_of ls t) q (tail_in G s.net.nodes ls grows.forest.sound t (known t offered.0)) (rooted t offered.0).1 in omega arith; gainful = c.gainful }
+
+      pub raised : r ≡ false → Relaxed G.ops s.net.nodes ls s.potentials.now s.links (set s.potentials.now to o) (set s.links to (Some t)) t (Continue true)
+      raised e =
+          let xs-set = ap₂ (set s.potentials.now) to-is offered.1 in
+          let ks-set = ap (λ v. set s.links v (Some t)) to-is in
+          (more, xs-set, ks-set, subst₂ (Forest G.ops s.net.nodes ls) (sym xs-set) (sym ks-set) (grown G s.net.nodes ls s.potentials.now s.links grows.forest t (known t offered.0, offered.0) more (rooted t offered.0).0 (rooted t offered.0).1 ((told_here (rooted t offered.0).0 (rooted t offered.0).1).0 e)))
 
 module _ {W : Type 0} (G : Kind W) (n : ℕ) (ls : List Arc) where
   abbrev N : Graph W
@@ -123,7 +156,7 @@ module _ {W : Type 0} (G : Kind W) (n : ℕ) (ls : List Arc) where
         higher x = ⊎_elim (λ e. subst (λ y. Le G.ops (potential G.ops xs₁ y) (potential G.ops xs₂ y)) (sym e) (subst (Le G.ops (potential G.ops xs₁ v)) (sym at_v) (lt_le G (potential G.ops xs₁ v) (offer G.ops n ls xs₁ s₀) o.0))) (λ d. le_eq G (potential G.ops xs₁ x) (potential G.ops xs₂ x) (sym (off_v x d))) (cases_eq x v)
 
         sizes : (b : ℕ) → Small G.ops b xs → Small G.ops (b + (k + 1)) xs₂
-        sizes b h x = ⊎_elim (λ e. omega (arith, ap G.ops.size (ap (potential G.ops xs₂) e ∙ at_v), G.laws.size_plus (potential G.ops xs₁ (tail_of ls s₀)) (step_worth G.ops N s₀), w.sizes b h (tail_of ls s₀), step_small G n ls w.forest.sound s₀ known)) (λ d. omega (arith, ap G.ops.size (off_v x d), w.sizes b h x)) (cases_eq x v)
+        sizes b h x = ⊎_elim (λ e. omega (arith, ap G.ops.size (ap (potential G.ops xs₂) e ∙ at_v), G.laws.size_plus (potential G.ops xs₁ (tail_of ls s₀)) (step_worth G.ops N s₀), w.sizes b h (tail_of ls s₀), step_small G n ls w.forest.sound s₀)) (λ d. omega (arith, ap G.ops.size (off_v x d), w.sizes b h x)) (cases_eq x v)
 
         here : (s : Step) → Open N (flow_of ls) s → code s ≡ k → Le G.ops (offer G.ops n ls xs s) (potential G.ops xs₂ (head_of ls s))
         here s p e =
@@ -134,8 +167,8 @@ module _ {W : Type 0} (G : Kind W) (n : ℕ) (ls : List Arc) where
         done s p h = ⊎_elim (λ e. here s p e) (λ d. le_trans G (offer G.ops n ls xs s) (potential G.ops xs₁ (head_of ls s)) (potential G.ops xs₂ (head_of ls s)) (w.done s p (omega arith)) (higher (head_of ls s))) (cases_eq (code s) k)
 
     pub swept_relaxed : arc s₀ < length ls → (r : Bool) → Relaxed G.ops n ls xs₁ ks₁ xs₂ ks₂ s₀ (Continue r) → Swept G.ops n ls xs xs₂ ks₂ (moved || r) (k + 1)
-    swept_relaxed known false o = subst (λ b. Swept G.ops n ls xs xs₂ ks₂ b (k + 1)) (or_false moved) (kept o)
-    swept_relaxed known true o = subst (λ b. Swept G.ops n ls xs xs₂ ks₂ b (k + 1)) (or_true moved) (raised_from known o)
+    swept_relaxed has false o = subst (λ b. Swept G.ops n ls xs xs₂ ks₂ b (k + 1)) (or_false moved) (kept o)
+    swept_relaxed has true o = subst (λ b. Swept G.ops n ls xs xs₂ ks₂ b (k + 1)) (or_true moved) (raised_from has o)
 
   -- a whole sweep
   pub swept_all : (xs xs' : List W) (ks' : List (Option Step)) (moved : Bool) (k : ℕ) → k ≡ 2 * length ls → Swept G.ops n ls xs xs' ks' moved k → Sweeps G.ops n ls xs xs' ks' (Continue moved)

@@ -5,14 +5,15 @@ use Rattle.worth.specs.Kinds.{Ops}
 use Rattle.flow.specs.Groups.{Kind}
 use Rattle.flow.specs.Graphs.{Graph}
 use Rattle.flow.specs.Arcs.{net, flow_of}
-use Rattle.flow.specs.Steps.{arc, step_worth, gain, residual, Allows}
+use Rattle.flow.specs.Steps.{step_worth, gain, residual, Allows}
 use Rattle.flow.specs.declared.arc.Arc.{Arc}
 use Rattle.flow.specs.declared.step.Step.{Step}
 use Rattle.flow.specs.declared.step.Step.TheVariants.{Forward, Backward}
 use Rattle.search.specs.Links.{SoundArcs, tail_of, head_of, residual_of, link, Trail, onto, climb, after}
 use Rattle.search.specs.declared.cycle.Cycle.{Cycle}
-use Rattle.search.specs.Searches.{round, Closes, Measures}
-use Rattle.search.proofs.Ways.{Known, climb_known}
+use Rattle.search.specs.Cycles.{Measured}
+use Rattle.search.specs.Searches.{round, Closes}
+use Rattle.search.proofs.Steps.{bounded}
 use Rattle.search.proofs.Forests.{step_small}
 
 module _ (ls : List Arc) (ks : List (Option Step)) where
@@ -33,11 +34,6 @@ module _ {W : Type 0} {o : Ops W} (y : Cycle) (z : Closes o y) where
   pub round_is : round y ≡ y.closing ∷ z.trail
   round_is = round_trail y.links.net.arcs.now y.links.last.now y.closing z.trail (length y.links.last.now) z.climbs (let l = z.short in let h = y.links.long in omega arith)
 
-  pub round_known : Known y.links.net.arcs.now (round y)
-  round_known =
-      let ls = y.links.net.arcs.now in
-      climb_known ls y.links.last.now z.linked (head_of ls y.closing) (Some y.closing) (length y.links.last.now) (λ t e. let f : y.closing ≡ t = cc in subst (λ r. arc r < length ls) f z.known)
-
 pub onto_allows : {W : Type 0} (N : Graph W) (u : ℕ → ℕ) (d : ℕ) (q p : List Step) → Allows N u (onto q p) d → Allows N u p d
 onto_allows N u d [] p a = a
 onto_allows N u d (t ∷ q) p a = (onto_allows N u d q (t ∷ p) a).1
@@ -46,15 +42,14 @@ onto_length : (q p : List Step) → length (onto q p) ≡ length q + length p
 onto_length [] p = omega arith
 onto_length (t ∷ q) p = omega (arith, onto_length q (t ∷ p))
 
-pub residual_small : {W : Type 0} (o : Ops W) (n : ℕ) (ls : List Arc) → SoundArcs n ls → (t : Step) → arc t < length ls → residual (net o n ls) (flow_of ls) t ≤ 1000
-residual_small o n ls z (Forward j) l = let a = (z j l).small in omega arith
-residual_small o n ls z (Backward j) l = let a = (z j l).small in let b = (z j l).held in omega arith
+pub residual_small : {W : Type 0} (o : Ops W) (n : ℕ) (ls : List Arc) → SoundArcs n ls → (t : Step) → residual (net o n ls) (flow_of ls) t ≤ 1000
+residual_small o n ls z (Forward j) = omega (arith, (bounded n ls z j).small)
+residual_small o n ls z (Backward j) = let a = bounded n ls z j in omega (arith, a.small, a.held)
 
 -- part of the way round a cycle: what the steps so far allow and gain, where rest is to come
 pub record Measuring {W : Type 0} (o : Ops W) (y : Cycle) (rest : List Step) (d : ℕ) (w : W) : Type 0 where
   pub done : List Step
   pub whole : onto rest done ≡ onto (round y) []
-  pub known : Known y.links.net.arcs.now rest
   pub few : length rest + length done ≤ 272
   pub allowed : Allows (net o y.links.net.nodes y.links.net.arcs.now) (flow_of y.links.net.arcs.now) done d
   pub most : (e : ℕ) → e ≤ 4294967295 → Allows (net o y.links.net.nodes y.links.net.arcs.now) (flow_of y.links.net.arcs.now) done e → e ≤ d
@@ -73,7 +68,6 @@ module _ {W : Type 0} (G : Kind W) (y : Cycle) where
     measuring_first e {w} none = record {
       done = [];
       whole = ap (λ q. onto q []) e;
-      known = subst (Known ls) (sym e) (round_known y z);
       few = let l = ap length (e ∙ round_is y z) in let h = z.short in let k = y.links.net.sound.few_nodes in omega arith;
       allowed = tt;
       most = λ f h a. h;
@@ -81,13 +75,13 @@ module _ {W : Type 0} (G : Kind W) (y : Cycle) where
       small = omega (arith, ap G.ops.size none, G.laws.size_none);
     }
 
-    pub measuring_all : {p : List Step} → p ≡ [] → {d : ℕ} {w : W} → Measuring G.ops y p d w → Measures G.ops y d w
+    pub measuring_all : {p : List Step} → p ≡ [] → {d : ℕ} {w : W} → Measuring G.ops y p d w → Measured G.ops y.links.net.nodes ls y.links.last.now y.closing d w
     measuring_all {p} e {d} {w} m =
         let s = y.closing in
         let is : m.done ≡ onto z.trail (s ∷ []) = ap (λ q. onto q m.done) (sym e) ∙ m.whole ∙ ap (λ q. onto q []) (round_is y z) in
         record {
           closing = z;
-          most = record { allowed = subst (λ q. Allows N (flow_of ls) q d) is m.allowed; most = λ f a. m.most f (let b = (onto_allows N (flow_of ls) f z.trail (s ∷ []) a).0 in let r = residual_small G.ops y.links.net.nodes ls y.links.net.sound.each s z.known in omega arith) (subst (λ q. Allows N (flow_of ls) q f) (sym is) a) };
+          most = record { allowed = subst (λ q. Allows N (flow_of ls) q d) is m.allowed; most = λ f a. m.most f (let b = (onto_allows N (flow_of ls) f z.trail (s ∷ []) a).0 in let r = residual_small G.ops y.links.net.nodes ls y.links.net.sound.each s in omega arith) (subst (λ q. Allows N (flow_of ls) q f) (sym is) a) };
           gains = m.gains ∙ ap (gain G.ops N) is;
           small = let q = m.small in let h = m.few in omega arith;
         }
@@ -98,7 +92,7 @@ module _ {W : Type 0} (G : Kind W) (y : Cycle) where
     on = subst (λ q. Measuring G.ops y q d w) e m
 
     step_fits : {v : W} → v ≡ step_worth G.ops N t → G.ops.size v ≤ 1
-    step_fits {v} is = omega (arith, ap G.ops.size is, step_small G y.links.net.nodes ls y.links.net.sound.each t on.known.0)
+    step_fits {v} is = omega (arith, ap G.ops.size is, step_small G y.links.net.nodes ls y.links.net.sound.each t)
 
     pub measuring_fits : {v : W} → v ≡ step_worth G.ops N t → G.ops.size v + G.ops.size w ≤ 4194304
     measuring_fits {v} is = omega (arith, on.few, on.small, step_fits is)
@@ -107,7 +101,6 @@ module _ {W : Type 0} (G : Kind W) (y : Cycle) where
     measuring_next {v} worth {left} left_is {d'} low {w'} is = record {
       done = t ∷ on.done;
       whole = on.whole;
-      known = on.known.1;
       few = let h = on.few in omega arith;
       allowed = (omega arith, narrower on.done on.allowed);
       most = λ f h a. let q = on.most f h a.1 in let r = a.0 in omega arith;

@@ -1,5 +1,6 @@
 -- The first entries of a work table, and the rest.
-use Rattle.std.proofs.Common.{◌≡◌, ℕ, ◌-◌, ◌<◌, ◌≤◌, List, ◌++◌, length, get_or, drop, replicate, None, Ok, Option, sym, ap, ◌∙◌, subst, subst₂, ⊎_elim, arith, length-append, length-drop, Some}
+use Rattle.std.proofs.Common.{◌≡◌, ℕ, zero, suc, ◌-◌, ◌<◌, ◌≤◌, List, [], ◌∷◌, ◌++◌, length, get_or, drop, replicate, None, Ok, Option, sym, ap, ◌∙◌, subst, subst₂, ⊎_elim, arith, length-append, length-drop, Some}
+use Rattle.std.specs.List.{FoldsTo}
 use lib.ListN.{length-replicate, get_or-replicate}
 use Rattle.std.proofs.lemmas.List.{get_or_append_left, get_or-append_right, get_or-drop, get_or_past}
 use Rattle.std.proofs.lemmas.Bool.{cases_lt}
@@ -40,3 +41,9 @@ module _ {W : Type 0} (o : Ops W) where
 -- a work table with just one entry for each node has none beyond
 pub beyond_none : {W : Type 0} (o : Ops W) (nodes : ℕ) (work work' : List W) → length work ≡ nodes → length work' ≡ length work → Beyond o nodes work work'
 beyond_none o nodes work work' e f = record { enough = omega arith; long = f; rest = λ v h. get_or_past work' v o.none (omega arith) ∙ sym (get_or_past work v o.none (omega arith)) }
+
+-- a row written by calls that each gave a
+pub filled : {F A : Type 0} (R : F → A → F → Type 0) (a : A) → ((f : F) (x : A) (f' : F) → R f x f' → x ≡ a) → (xs : List A) (f last : F) → FoldsTo R f xs last → (v : ℕ) → get_or xs v a ≡ a
+filled R a h [] f last r v = get_or_past [] v a (omega arith)
+filled R a h (x ∷ xs) f last r zero = h f x r.0 r.1
+filled R a h (x ∷ xs) f last r (suc v) = filled R a h xs r.0 last r.2 v

@@ -5,7 +5,7 @@ use Rattle.flow.specs.declared.step.Step.{Step}
 use Rattle.flow.specs.Steps.{Gainful, Shifted, Allows}
 use Rattle.flow.specs.Arcs.{SameArcs}
 use Rattle.tables.specs.declared.refusal.Refusal.{Refusal}
-use Rattle.tables.specs.Refusals.{number}
+use Rattle.tables.specs.declared.refusal.Refusal.TheVariants as refusals
 use Rattle.network.specs.Networks.{Net, flow_in, graph, value}
 use Rattle.network.specs.Potentials.{potential, Fitted}
 
@@ -45,11 +45,12 @@ module _ {W : Type 0} (o : Ops W) where
   -- the work table is shorter than the nodes: that is refusal 10, and nothing changes
   pub record Short (before after : Net) (work work' : List W) (e : Refusal) : Type 0 where
     pub short : length work < before.nodes
-    pub numbered : number e ≡ 10
+    pub named : e ≡ refusals.Short
     pub same : after ≡ before
     pub kept : work' ≡ work
 
-  -- improve: one cycle and the work table none; or, where no cycle is worth more than none, potentials that fit; or a refusal
+  -- improve: `Some` is the rise, by one cycle, and leaves the work table none; `None` says that the network is best, as no
+  -- cycle is worth more than none, and leaves potentials that fit; or a refusal
   abbrev pub Improving : Net → Net → List W → List W → Result (Option W) Refusal → Type 0
   Improving before after work work' (Ok (Some rise)) = Improves o before after rise × Nones before.nodes work' × Beyond before.nodes work work'
   Improving before after work work' (Ok None) = (after ≡ before) × Fitted o before work' × Beyond before.nodes work work' × Idle before

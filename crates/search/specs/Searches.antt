@@ -7,6 +7,7 @@ use Rattle.network.specs.Potentials.{potential}
 use Rattle.flow.specs.declared.step.Step.{Step}
 use Rattle.search.specs.declared.residual.Residual.{Residual}
 use Rattle.search.specs.declared.cycle.Cycle.{Cycle}
+use Rattle.search.specs.declared.cycle.Measure.{Measure}
 use Rattle.search.specs.declared.sweep.Search.{Search}
 use Rattle.search.specs.Links.{Unlinked, head_of, climb}
 use Rattle.search.specs.Sweeps.{Small, Forest, Closing, Offered, Relaxed, Sweeps, Found}
@@ -62,6 +63,6 @@ module _ {W : Type 0} (o : Ops W) where
   abbrev pub Closes : Cycle → Type 0
   Closes c = Closing o c.links.net.nodes c.links.net.arcs.now c.links.last.now c.closing
 
-  -- it allows d, and one unit along it gains w
-  abbrev pub Measures : Cycle → ℕ → W → Type 0
-  Measures c d w = Measured o c.links.net.nodes c.links.net.arcs.now c.links.last.now c.closing d w
+  -- it allows the amount, and one unit along it gains the gain
+  abbrev pub Measures : Cycle → Measure W → Type 0
+  Measures c m = Measured o c.links.net.nodes c.links.net.arcs.now c.links.last.now c.closing m.amount m.gain

@@ -58,11 +58,11 @@ module _ {W : Type 0} (G : Ops W) (n : ℕ) (ls : List Arc) where
     pub short : length trail < n
     pub gainful : Gainful G (net G n ls) (flow_of ls) (onto trail (s ∷ []))
 
-  -- what relaxing step s does to the potentials xs and the links ks: it keeps or raises them, or closes a cycle
+  -- what relaxing step s does to the potentials xs and the links ks: it keeps or raises them, or s itself closes a cycle
   abbrev pub Relaxed : List W → List (Option Step) → List W → List (Option Step) → Step → ControlFlow Step Bool → Type 0
   Relaxed xs ks xs' ks' s (Continue false) = (0 < residual_of ls s → Le G (offer xs s) (potential G xs (head_of ls s))) × (xs' ≡ xs) × (ks' ≡ ks)
   Relaxed xs ks xs' ks' s (Continue true) = Lt G (potential G xs (head_of ls s)) (offer xs s) × (xs' ≡ slice_set xs (head_of ls s) (offer xs s)) × (ks' ≡ slice_set ks (head_of ls s) (Some s)) × Forest xs' ks'
-  Relaxed xs ks xs' ks' s (Break t) = Closing ks' t
+  Relaxed xs ks xs' ks' s (Break t) = (t ≡ s) × Closing ks' t
 
   -- the steps numbered below k were relaxed, from the potentials xs on
   pub record Swept (xs xs' : List W) (ks' : List (Option Step)) (moved : Bool) (k : ℕ) : Type 0 where

@@ -1,6 +1,5 @@
 // A cycle that a search has found, and what it allows and gains.
-ghost use Rattle.std.specs.Prelude.{◌≡◌, ◌<◌, length};
-ghost use Rattle.flow.specs.Steps.{arc as arc_of};
+ghost use Rattle.std.specs.Prelude.{◌≡◌};
 
 use super::links::{Ascent, Links};
 use flow::step::Step;
@@ -11,7 +10,13 @@ use worth::kind::Worth;
 pub(crate) struct Cycle<'a> {
     pub(crate) links: Links<'a>,
     pub(crate) closing: Step,
-    ghost known: { arc_of closing < length links.net.arcs.now },
+}
+
+// How much all the steps of a cycle can take, and what one unit along it gains.
+#[derive(Clone, Copy)]
+pub(crate) struct Measure<W> {
+    pub(crate) amount: u32,
+    pub(crate) gain: W,
 }
 
 impl<'a> Cycle<'a> {
@@ -26,18 +31,19 @@ impl<'a> Cycle<'a> {
         self.links.ascent(Some(self.closing), goal)
     }
 
-    // How much all its steps can take, and what one unit along it gains.
-    pub(crate) fn measure<W: Worth>(self) -> (u32, W)
+    // What it allows and gains.
+    pub(crate) fn measure<W: Worth>(self) -> Measure<W>
         requires { Closes W.ops self }
-        ensures { Measures W.ops self.entry result.0 result.1 }
+        ensures { Measures W.ops self.entry result }
     {
         let net = self.links.net;
         let mut amount = u32::MAX;
-        let mut total = W::none();
+        let mut gain = W::none();
+        // A `fold` is no plainer: `plus` has a bound, so its closure would need a clause that bounds the gain so far.
         for step in self.steps() {
             amount = amount.min(net.room(step));
-            total = net.gain::<W>(step).plus(total);
+            gain = net.gain::<W>(step).plus(gain);
         }
-        (amount, total)
+        Measure { amount, gain }
     }
 }

@@ -1,4 +1,4 @@
-ghost use Rattle.std.specs.Prelude.{◌≡◌, length, Ok};
+ghost use Rattle.std.specs.Prelude.{◌≡◌, [], length, Ok};
 ghost use Rattle.search.specs.Outcomes.{Improving};
 ghost use Rattle.search.specs.Uses.{Law};
 
@@ -9,44 +9,39 @@ use flow::arc::Arc;
 use network::improvable::Improvable;
 use network::readable::Network;
 use tables::refusal::Refusal;
+use tables::table::Table;
 use worth::kind::Worth;
 
-// Copies the arcs of a network into a table, since the search reads each of them many times.
-fn read_arcs<N: Network>(net: &N, table: &mut [Arc])
-    requires { length table.old ≡ length (N.Network.net net.now).arcs }
+// Reads the arcs of a network into a table, since the search reads each of them many times. The table is lent: where it was
+// answered it was copied once more, and small networks took nearly twice as long to clear.
+fn read_arcs<N: Network>(net: &N, table: &mut Table<Arc, 448>)
+    requires { table.old ≡ [] }
     ensures { table.new ≡ (N.Network.net net.now).arcs }
 {
-    for (i, arc) in net.arcs().enumerate() {
-        table[i] = arc;
+    for arc in net.arcs() {
+        // a network has no more arcs than the table has room for
+        let _ = table.push(arc);
     }
 }
 
-// Improves by one cycle, where the work table and the table of arcs have just one entry for each node and each arc.
-fn improve_within<N: Improvable>(net: &mut N, work: &mut [N::W], table: &mut [Arc]) -> Option<N::W>
-    requires worked { length work.old ≡ (N.Network.net net.old).nodes }
-    requires tabled { length table.old ≡ length (N.Network.net net.old).arcs }
+// Improves by one cycle, where the work table has just one entry for each node.
+fn improve_within<N: Improvable>(net: &mut N, work: &mut [N::W]) -> Option<N::W>
+    requires { length work.old ≡ (N.Network.net net.old).nodes }
     ensures outcome { Improving N.W.Worth.ops (N.Network.net net.old) (N.Network.net net.new) work.old work.new (Ok result) }
     ensures kept { N.Improvable.alike net.old net.new }
 {
-    read_arcs(net, table);
+    let mut table = Table::default();
+    read_arcs(net, &mut table);
     let residual = Residual {
         nodes: work.len(),
-        arcs: table,
+        arcs: table.as_slice(),
     };
     let mut search = Search::new(residual, work);
     let closing = search.find_cycle()?;
     let cycle = search.cycle(closing);
-    let (amount, total) = cycle.measure::<N::W>();
-    let rise = shift(net, cycle, amount, total);
+    let rise = shift(net, cycle, cycle.measure());
     blank(work);
     Some(rise)
-}
-
-// A table for the arcs, at its full size. It is made apart, so that what is proved of improve does not list its entries.
-fn no_arcs() -> [Arc; 448]
-    ensures { length result ≡ 448 }
-{
-    [Arc::default(); 448]
 }
 
 // Shifts along one cycle worth more than none as much as all its steps allow, if there is such a cycle; then the work
@@ -57,12 +52,10 @@ pub fn improve<N: Improvable>(net: &mut N, work: &mut [N::W]) -> Result<Option<N
     ensures kept { N.Improvable.alike net.old net.new }
     ensures law { Law N.W.Worth.ops }
 {
-    let (nodes, count) = net.counts();
+    let (nodes, _) = net.counts();
     let n = nodes as usize;
-    let m = count as usize;
     if work.len() < n {
         return Err(Refusal::Short);
     }
-    let mut table = no_arcs();
-    Ok(improve_within(net, &mut work[..n], &mut table[..m]))
+    Ok(improve_within(net, &mut work[..n]))
 }

@@ -1,8 +1,6 @@
 // The links of a search, and the way up along them.
-ghost use Rattle.std.specs.Prelude.{◌≡◌, ◌<◌, ◌≤◌, length};
-ghost use Rattle.std.specs.Option.{ForSome};
-ghost use Rattle.flow.specs.Steps.{arc as arc_of};
-ghost use Rattle.search.specs.Links.{link, Linked, Rooted, Told, climb, after};
+ghost use Rattle.std.specs.Prelude.{◌≡◌, ◌≤◌, length};
+ghost use Rattle.search.specs.Links.{link, Rooted, Told, climb, after};
 
 use super::residual::Residual;
 use flow::step::Step;
@@ -12,7 +10,6 @@ use flow::step::Step;
 pub(crate) struct Links<'a> {
     pub(crate) net: Residual<'a>,
     pub(crate) last: &'a [Option<Step>],
-    ghost linked: { Linked net.arcs.now last.now },
     ghost long: { net.nodes ≤ length last.now },
 }
 
@@ -23,7 +20,6 @@ pub(crate) struct Ascent<'a> {
     next: Option<Step>,
     goal: usize,
     left: usize,
-    ghost known: { ForSome next (λ s. arc_of s < length links.net.arcs.now) },
 }
 
 impl<'a> Iterator for Ascent<'a> {
@@ -56,7 +52,6 @@ impl<'a> Links<'a> {
 
     // The step after one on the way up, or none at the goal or a root.
     fn onward(self, step: Step, goal: usize) -> Option<Step>
-        requires { arc_of step < length self.net.arcs.now }
         ensures { result ≡ after self.entry.net.arcs.now self.entry.last.now goal step }
     {
         let node = self.net.tail(step);
@@ -68,7 +63,6 @@ impl<'a> Links<'a> {
 
     // The steps from `first` on up, to the goal or a root.
     pub(crate) fn ascent(self, first: Option<Step>, goal: usize) -> Ascent<'a>
-        requires { ForSome first (λ s. arc_of s < length self.net.arcs.now) }
         ensures { steps_left result ≡ climb self.entry.net.arcs.now self.entry.last.now goal first (length self.entry.last.now) }
     {
         Ascent {

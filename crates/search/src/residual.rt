@@ -1,6 +1,6 @@
 // The residual network over a table of arcs: where a step leads, how much it can take, and what it is worth.
-ghost use Rattle.std.specs.Prelude.{◌≡◌, ◌<◌, length};
-ghost use Rattle.flow.specs.Arcs.{net};
+ghost use Rattle.std.specs.Prelude.{◌≡◌};
+ghost use Rattle.flow.specs.Arcs.{arc_at, net};
 ghost use Rattle.flow.specs.Steps.{arc as arc_of, step_worth};
 ghost use Rattle.network.specs.Networks.{Sound};
 ghost use Rattle.search.specs.Links.{tail_of, head_of, residual_of};
@@ -18,47 +18,56 @@ pub(crate) struct Residual<'a> {
 }
 
 impl<'a> Residual<'a> {
+    // The arc of a step. Where there is none it is an idle one, so that each question below has an answer for every step.
+    fn arc(self, step: Step) -> Arc
+        ensures { result ≡ arc_at self.entry.arcs.now (arc_of step) }
+    {
+        let (Step::Forward(i) | Step::Backward(i)) = step;
+        self.arcs.get(i).copied().unwrap_or_default()
+    }
+
     // The node that a step starts from.
     pub(crate) fn tail(self, step: Step) -> usize
-        requires { arc_of step < length self.arcs.now }
         ensures { result ≡ tail_of self.entry.arcs.now step }
     {
+        let arc = self.arc(step);
         match step {
-            Step::Forward(i) => self.arcs[i].from as usize,
-            Step::Backward(i) => self.arcs[i].to as usize,
+            Step::Forward(_) => arc.from as usize,
+            Step::Backward(_) => arc.to as usize,
         }
     }
 
     // The node that a step leads to. Through `tail` of the step turned round it would be no shorter.
     pub(crate) fn head(self, step: Step) -> usize
-        requires { arc_of step < length self.arcs.now }
         ensures { result ≡ head_of self.entry.arcs.now step }
     {
+        let arc = self.arc(step);
         match step {
-            Step::Forward(i) => self.arcs[i].to as usize,
-            Step::Backward(i) => self.arcs[i].from as usize,
+            Step::Forward(_) => arc.to as usize,
+            Step::Backward(_) => arc.from as usize,
         }
     }
 
     // How much a step can take.
     pub(crate) fn room(self, step: Step) -> u32
-        requires { arc_of step < length self.arcs.now }
         ensures { result ≡ residual_of self.entry.arcs.now step }
     {
+        let arc = self.arc(step);
         match step {
-            Step::Forward(i) => self.arcs[i].capacity - self.arcs[i].flow,
-            Step::Backward(i) => self.arcs[i].flow,
+            Step::Forward(_) => arc.capacity - arc.flow,
+            Step::Backward(_) => arc.flow,
         }
     }
 
     // What one unit along a step is worth.
     pub(crate) fn gain<W: Worth>(self, step: Step) -> W
-        requires { arc_of step < length self.arcs.now }
         ensures { result ≡ step_worth W.ops (net W.ops self.entry.nodes self.entry.arcs.now) step }
     {
+        let arc = self.arc(step);
+        let unit = W::unit(arc.price, arc.weeks);
         match step {
-            Step::Forward(i) => W::unit(self.arcs[i].price, self.arcs[i].weeks),
-            Step::Backward(i) => W::unit(self.arcs[i].price, self.arcs[i].weeks).negated(),
+            Step::Forward(_) => unit,
+            Step::Backward(_) => unit.negated(),
         }
     }
 }

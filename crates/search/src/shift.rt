@@ -3,7 +3,7 @@ ghost use Rattle.search.specs.Cycles.{taken, Takes};
 ghost use Rattle.search.specs.Outcomes.{Improves};
 ghost use Rattle.search.specs.Searches.{net_of, Measures};
 
-use super::cycle::Cycle;
+use super::cycle::{Cycle, Measure};
 use flow::step::Step;
 use network::improvable::Improvable;
 use network::readable::Network;
@@ -25,15 +25,15 @@ fn push_step<N: Improvable>(net: &mut N, step: Step, amount: u32)
     }
 }
 
-// Moves an amount along a cycle, and answers what the worth rises by; one unit gains `total`.
-pub(crate) fn shift<N: Improvable>(net: &mut N, cycle: Cycle, amount: u32, total: N::W) -> N::W
+// Moves as much along a cycle as it allows, and answers what the worth rises by.
+pub(crate) fn shift<N: Improvable>(net: &mut N, cycle: Cycle, measure: Measure<N::W>) -> N::W
     requires read { net_of cycle.links.net ≡ N.Network.net net.old }
-    requires measured { Measures N.W.Worth.ops cycle amount total }
+    requires measured { Measures N.W.Worth.ops cycle measure }
     ensures rises { Improves N.W.Worth.ops (N.Network.net net.old) (N.Network.net net.new) result }
     ensures kept { N.Improvable.alike net.old net.new }
 {
     for step in cycle.steps() {
-        push_step(net, step, amount);
+        push_step(net, step, measure.amount);
     }
-    total.times(amount)
+    measure.gain.times(measure.amount)
 }

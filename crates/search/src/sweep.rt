@@ -1,8 +1,7 @@
 // The search for a cycle worth more than none: potentials are raised in place, step by step, until a step
 // closes a cycle or a whole sweep raises nothing; then the potentials fit.
-ghost use Rattle.std.specs.Prelude.{◌≡◌, ℕ, ◌<◌, [], ◌∷◌, length, slice_index_or};
-ghost use Rattle.flow.specs.Steps.{arc as arc_of};
-ghost use Rattle.search.specs.Links.{Linked, Unlinked};
+ghost use Rattle.std.specs.Prelude.{◌≡◌, ℕ, [], ◌∷◌, length, slice_index_or};
+ghost use Rattle.search.specs.Links.{Unlinked};
 ghost use Rattle.search.specs.Searches.{Same, Begun, Growing, Offers, Relaxes, SweepsTo, Finds, ClosedBy, Closes};
 
 use super::cycle::Cycle;
@@ -13,6 +12,7 @@ use std::ops::ControlFlow;
 use worth::kind::Worth;
 
 // A potential and a link for each node of a network: two rows, since the potentials lie in the work table that the caller lends.
+// `Same` is what each method that writes keeps; `Growing` is no invariant, since its bound differs from call to call.
 #[derive(Drop)]
 pub(crate) struct Search<'a, W> {
     net: Residual<'a>,
@@ -38,7 +38,6 @@ impl<'a, W: Worth> Search<'a, W> {
 
     // The links as they stand.
     fn links(&self) -> Links<'_>
-        requires { Linked self.now.net.arcs.now self.now.links }
         ensures net { result.net ≡ self.now.net }
         ensures last { result.last.now ≡ self.now.links }
     {
@@ -62,8 +61,7 @@ impl<'a, W: Worth> Search<'a, W> {
 
     // What a step offers to its head, if it can be taken and offers more than there is.
     fn offer(&self, step: Step) -> Option<W>
-        requires growing { Growing W.ops 1000000 self.now }
-        requires known { arc_of step < length self.now.net.arcs.now }
+        requires { Growing W.ops 1000000 self.now }
         ensures { Offers W.ops self.now step result }
     {
         let net = self.net;
@@ -79,8 +77,7 @@ impl<'a, W: Worth> Search<'a, W> {
     // Raises the potential at a step's head to what the step offers, if that is more: whether it rose,
     // or else the step, where it closes a cycle worth more than none.
     fn relax(&mut self, step: Step) -> ControlFlow<Step, bool>
-        requires growing { Growing W.ops 1000000 self.old }
-        requires known { arc_of step < length self.old.net.arcs.now }
+        requires { Growing W.ops 1000000 self.old }
         ensures same { Same self.old self.new }
         ensures relaxed { Relaxes W.ops self.old self.new step result }
     {
@@ -139,13 +136,11 @@ fn both_ways(i: usize) -> [Step; 2]
     [Step::Forward(i), Step::Backward(i)]
 }
 
-// All entries none. The library's `fill` asks for a clone that cannot fail, which a kind of worth does not promise.
+// All entries none.
 pub(crate) fn blank<W: Worth>(work: &mut [W])
     ensures { (v : ℕ) → slice_index_or work.new v W.ops.none ≡ W.ops.none }
 {
-    for slot in work.iter_mut() {
-        *slot = W::none();
-    }
+    work.fill_with(|| W::none());
 }
 
 // No links, at the full size of a search. They are made apart, so that what is proved of a search does not list its entries.

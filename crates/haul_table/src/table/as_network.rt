@@ -10,6 +10,7 @@ use network::readable::Network;
 use tables::refusal::Refusal;
 use worth::kind::Worth;
 
+// A haul table and a closed round are two types with one trait, of which each body is one call.
 impl<W: Worth> Network for HaulTable<W> {
     ghost net = { λ x. hauled x };
 

@@ -45,7 +45,8 @@ impl<W: Worth> HaulTable<W> {
         }
     }
 
-    // Adds an arc on which nothing flows, and answers its number.
+    // Adds an arc on which nothing flows, and answers its number. The exchange's call names the five parts; they become one
+    // `Arc` at once.
     pub fn road(
         &mut self,
         from: u32,
@@ -63,6 +64,9 @@ impl<W: Worth> HaulTable<W> {
         self.arcs.push(arc)?;
         Ok(number as u32)
     }
+
+    // This and the next two calls are those of a closed round too. The generic function is what the two share: each says its
+    // own law over uses, and what its own type keeps.
 
     // Shifts along one cycle worth more than none, or says that the flows are best.
     pub fn improve(&mut self, work: &mut [W]) -> Result<Option<W>, Refusal>

@@ -12,6 +12,7 @@ use network::readable::Network;
 use tables::refusal::Refusal;
 use worth::kind::Worth;
 
+// A haul table has blocks like these two: what the two types share is the trait, and a body is a call or two of what a type holds.
 impl<W: Worth> Network for ClosedRound<W> {
     ghost net = { λ x. closed_net x };
 

@@ -9,7 +9,7 @@ use super::OpenRound;
 use tables::refusal::Refusal;
 
 impl OpenRound {
-    // Sets an offer's limit to 0, and touches no other offer.
+    // Sets an offer's limit to 0, which stands for withdrawn, and touches no other offer.
     pub fn withdraw(&mut self, offer: u32) -> Result<(), Refusal>
         ensures outcome { Withdraws (book self.old) (book self.new) offer result }
         ensures law { RoundLaw }

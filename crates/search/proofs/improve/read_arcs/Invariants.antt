@@ -1,9 +1,9 @@
-use Rattle.std.proofs.Common.{◌≡◌, ℕ, ◌+◌, ◌<◌, length, get_or}
-use Rattle.flow.specs.Arcs.{arc_at, blank}
+use Rattle.std.proofs.Common.{◌≡◌}
+use Rattle.network.proofs.Reading.{Walk}
 use Rattle.search.proofs.improve.read_arcs.Given as goal
 
-abbrev pub invariant-loop-i : goal.invariant-loop-i
-invariant-loop-i g l = record {
-  left : length l.yielded + length l.i-iterator.iter ≡ length (g.N.Network.net l.net).arcs;
-  read : (k : ℕ) → k < length l.yielded → get_or l.table k blank ≡ arc_at (g.N.Network.net l.net).arcs k;
+abbrev pub invariant-loop-arc : goal.invariant-loop-arc
+invariant-loop-arc g l = record {
+  walk : Walk (g.N.Network.net l.net) l.yielded l.arc-iterator;
+  read : l.table ≡ l.yielded;
 }

@@ -1,21 +1,11 @@
-use Rattle.std.proofs.Common.{rules, ◌≡◌, ◌<◌, ◌≤◌, ◌==◌, true, length, sym, ap, ◌∙◌, arith}
+use Rattle.std.proofs.Common.{rules, ◌≡◌, ◌≤◌, ◌==◌, true, length, ap, arith}
 use Rattle.std.proofs.lemmas.Bool.{eq-eqb}
-use Rattle.std.proofs.lemmas.Iterator.Adapters.{serves_from_places}
 use Rattle.std.proofs.lemmas.Iterator.Consumers.{YieldsList-from_first}
 use Rattle.std.proofs.lemmas.Iterator.Search.{any_from_yields_List}
-use Rattle.flow.specs.Steps.{arc}
 use Rattle.search.specs.Ascents.{steps_left}
 use Rattle.search.specs.Links.{climb}
-use Rattle.search.proofs.Ways.{from_goal, known_at, met, one_way, passed, climb_known}
+use Rattle.search.proofs.Ways.{from_goal, met, one_way, passed}
 use Rattle.search.proofs.links.Links.passes.Goals as goal
-
-pub any-requires-clause-callable : goal.any-requires-clause-callable
-any-requires-clause-callable c =
-    let ls = c.args.self.net.arcs.now in
-    let ks = c.args.self.last.now in
-    let linked = c.args.self.linked in
-    let p = climb ls ks c.args.goal c.of.result (length ks) in
-    serves_from_places (YieldsList-from_first (λ x. x) steps_left p c.ascent.ensures) (λ x q k. search rules) (λ x k l e. let h : arc x < length ls = known_at ls p (climb_known ls ks linked c.args.goal c.of.result (length ks) (λ s f. (linked c.args.from s (sym c.of.ensures ∙ f)).0)) x k l e in search rules)
 
 pub returns-then-from-goal : goal.returns-then-from-goal
 returns-then-from-goal c q up = let b : (c.args.from == c.args.goal) ≡ true = eq-eqb c.args.from c.args.goal c.if-from-goal.true in rw b (met c.args.self.net.arcs.now c.args.self.last.now c.args.from c.args.goal c.if-from-goal.true q)

@@ -1,0 +1,132 @@
+-- Records of the chain round: what check comes to on their texts.
+use Rattle.std.proofs.Common.{◌≡◌, ℕ, zero, suc, ◌<◌, ◌≤◌, Bool, true, false, ◌&&◌, leb, List, [], ◌∷◌, map, length, ℤ, pos, negsuc, Ok, Err, Result, Some, None, Option, MatchResult, sym, refl, ap, ◌∙◌, subst, inl, inr, arith}
+use Rattle.std.proofs.lemmas.Bool.{both_ways, and_parts, leb-true}
+use Rattle.std.specs.List.{AllByRecursion}
+use Rattle.tables.specs.Refusals.{when, First, number, refusal}
+use Rattle.tables.specs.declared.refusal.Refusal.{Refusal}
+use Rattle.text.specs.declared.fault.Fault.{Fault}
+use Rattle.worth.specs.Money.{money, of_cents}
+use Rattle.worth.specs.declared.money.Money.{Money as MoneyWorth}
+use Rattle.network.specs.Networks.{Net, flow_in, value}
+use Rattle.network.specs.Potentials.{potential, Fitted}
+use Rattle.book.specs.Allotments.{Allotment, Units, Allowed}
+use Rattle.book.specs.Arcs.{net_of, nodes, filled}
+use Rattle.book.specs.Books.{Book, Offer, Sound}
+use Rattle.book.specs.Rows.{AllWith, map_with}
+use Rattle.book.specs.declared.line.Line.{Line}
+use Rattle.book.proofs.Best.{allowed_is_circulation_lem}
+use Rattle.layout.specs.Records.{by_money, Contents, book_of, allotted, level_size, FairLevel, FairAllotment, contents_of, Valid}
+use Rattle.layout.specs.Render.{render}
+use Rattle.layout.specs.Runs.{Reads, Refused}
+use Rattle.layout.proofs.Lines.{answer_once}
+use Rattle.layout.proofs.Once.{one_outcome}
+use Rattle.layout.proofs.Recorded.{all_recorded}
+use Rattle.layout.proofs.Renders.{reads_records}
+use Rattle.record.specs.Checks.{total_by, result_of, Answered, failing, Fails, Checks}
+use Rattle.record.specs.Evidence.{amount, LevelsFit, network_of, Passes}
+use Rattle.record.specs.declared.passed.Passed.{Passed}
+use Rattle.record.specs.declared.passed.OfferResult.{OfferResult}
+use Rattle.record.specs.declared.passed.Total.TheVariants.{Money}
+use Rattle.cases.specs.Texts.{Check, PassesWith}
+use Rattle.cases.specs.Texts as texts
+use Rattle.cases.proofs.Tests.{all_below, below, balanced, circulates, inside, within, left_fits, flow_fits, fits}
+
+-- the number that check refuses with, or none, and line 0
+abbrev refusal_of : Result Passed Fault → Option ℕ
+refusal_of (Ok p) = None
+refusal_of (Err f) = Some (number f.refusal)
+
+module _ (text : List ℕ) (x : Contents) (reads : Reads text x) where
+  -- a text that reads comes to what its contents come to
+  pub one_answer : (o : Option ℕ) → First (failing x) o → (r : Result Passed Fault) → Checks text r → refusal_of r ≡ o
+  one_answer o f (Ok p) (y, passes, answered) =
+      let e = one_outcome.one_reading text y x passes.reads reads in
+      let ps : Passes text x = subst (Passes text) e passes in
+      answer_once (failing x) None o ((λ h. absurd (h ps.allowed)), λ _. ((λ h. absurd (h ps.fits)), λ _. refl)) f
+  one_answer o f (Err d) (inl h) = absurd (one_outcome.not_both text x (number d.refusal) d.line reads h)
+  one_answer o f (Err d) (inr h) = answer_once (failing x) (Some (number d.refusal)) o (subst (λ y. First (failing y) (Some (number d.refusal))) (one_outcome.one_reading text h.contents x h.reads reads) h.first) f
+
+  no_line : (d : Fault) → Checks text (Err d) → d.line ≡ 0
+  no_line d (inl h) = absurd (one_outcome.not_both text x (number d.refusal) d.line reads h)
+  no_line d (inr h) = h.line
+
+  answered_once : (p : Passed) → Checks text (Ok p) → (p.worth ≡ total_by x.kind (network_of x)) × (p.offers ≡ map_with result_of (book_of x).offers (allotted x))
+  answered_once p (y, passes, answered) =
+      let e = one_outcome.one_reading text y x passes.reads reads in
+      let a : Answered x p = subst (λ z. Answered z p) e answered in
+      (a.worth, a.offers)
+
+none≢some : (n : ℕ) → ◌≡◌ {A = Option ℕ} None (Some n) → ⊥
+none≢some n e = let z : ◌≡◌ {A = ℕ} 0 1 = cc in omega arith
+
+some_same : (m n : ℕ) → ◌≡◌ {A = Option ℕ} (Some m) (Some n) → m ≡ n
+some_same m n e = cc
+
+-- contents that pass
+pub passes_with : (text : List ℕ) (x : Contents) (cents : ℕ) (offers : List OfferResult) → Reads text x → Allowed (book_of x) (allotted x) → LevelsFit x.kind (network_of x) x.levels → total_by x.kind (network_of x) ≡ Money (of_cents (pos cents)) → map_with result_of (book_of x).offers (allotted x) ≡ offers → PassesWith text cents offers
+passes_with text x cents offers reads allowed fit w os = record { some = (Ok p, (x, record { reads = reads; allowed = allowed; fits = fit }, record { worth = refl; offers = refl })); every = every }
+  where
+    p : Passed
+    p = record { worth = total_by x.kind (network_of x); offers = map_with result_of (book_of x).offers (allotted x) }
+
+    every : (r : Result Passed Fault) → Checks text r → MatchResult r (λ p. (p.worth ≡ Money (of_cents (pos cents))) × (p.offers ≡ offers)) (λ _. ⊥)
+    every (Ok p) h = let a = answered_once text x reads p h in (a.0 ∙ w, a.1 ∙ os)
+    every (Err d) h = none≢some (number d.refusal) (sym (one_answer text x reads None ((λ f. absurd (f allowed)), λ _. ((λ f. absurd (f fit)), λ _. refl)) (Err d) h))
+
+-- contents that fail
+pub fails : (text : List ℕ) (x : Contents) (e : Refusal) → Reads text x → First (failing x) (Some (number e)) → texts.Fails text (number e)
+fails text x e reads f = record { some = (Err (record { refusal = e; line = 0 }), inr (record { contents = x; reads = reads; first = f; line = refl })); every = every }
+  where
+    every : (r : Result Passed Fault) → Checks text r → MatchResult r (λ _. ⊥) (λ d. (number d.refusal ≡ number e) × (d.line ≡ 0))
+    every (Ok p) h = none≢some (number e) (one_answer text x reads (Some (number e)) f (Ok p) h)
+    every (Err d) h = (some_same (number d.refusal) (number e) (one_answer text x reads (Some (number e)) f (Err d) h), no_line text x reads d h)
+
+-- as many units on each line
+abbrev pub all : ℕ → Allotment
+all units k = record { give = λ t. units; get = λ t. units }
+
+fair_side : (units : ℕ) → units ≤ 1000 → (ls : List Line) → AllWith (λ l n. n ≤ 1000) ls (λ t. units)
+fair_side units h [] = tt
+fair_side units h (l ∷ ls) = (h, fair_side units h ls)
+
+fair_all : (units : ℕ) → units ≤ 1000 → (os : List Offer) → FairAllotment os (all units)
+fair_all units h [] = tt
+fair_all units h (o ∷ os) = ((fair_side units h o.give, fair_side units h o.get), fair_all units h os)
+
+abbrev are_small : List ℤ → Bool
+are_small [] = true
+are_small (z ∷ zs) = leb (level_size (z ∷ [])) 1000000 && are_small zs
+
+-- levels by money
+abbrev pub levels : List ℤ → List (List ℤ)
+levels zs = map (λ z. z ∷ []) zs
+
+fair_levels : (zs : List ℤ) → are_small zs ≡ true → AllByRecursion (FairLevel by_money) (levels zs)
+fair_levels [] h = tt
+fair_levels (z ∷ zs) h = let p = and_parts (leb (level_size (z ∷ [])) 1000000) (are_small zs) h in ((refl, leb-true (level_size (z ∷ [])) 1000000 p.0), fair_levels zs p.1)
+
+-- a record of a sound book reads
+pub record_reads : (text : List ℕ) (b : Book) (units : ℕ) (zs : List ℤ) → Sound b → leb units 1000 ≡ true → are_small zs ≡ true → length (levels zs) ≡ nodes b → text ≡ render (contents_of by_money b (all units) (levels zs)) → Reads text (contents_of by_money b (all units) (levels zs))
+record_reads text b units zs s h k long e =
+    let x = contents_of by_money b (all units) (levels zs) in
+    (reads_records text x).1 (e, (all_recorded by_money b (all units) (levels zs)).valid s (fair_all units (leb-true units 1000 h) b.offers) (fair_levels zs k) long)
+
+-- an allotment that fills the network with a circulation within the capacities is allowed
+module _ (b : Book) (a : Allotment) (s : Sound b) where
+  abbrev flow : ℕ → ℕ
+  flow = flow_in (filled b a)
+
+  pub allowed_by : all_below (nodes b) (balanced money (net_of b) flow) ≡ true → all_below (length (net_of b).arcs) (inside money (net_of b) flow) ≡ true → Allowed b a
+  allowed_by h k = (allowed_is_circulation_lem money b a s).1 (record { within = within money (net_of b) flow k; balanced = circulates money (net_of b) flow h })
+
+-- levels that fit
+module _ (n : Net) (zs : List (List ℤ)) where
+  abbrev row : List MoneyWorth
+  row = map amount zs
+
+  pub levels_fit : leb n.nodes (length row) ≡ true → all_below (length n.arcs) (λ i. left_fits money n (flow_in n) (potential money row) i && flow_fits money n (flow_in n) (potential money row) i) ≡ true → all_below n.nodes (λ v. leb (money.size (potential money row v)) 1000000) ≡ true → LevelsFit by_money n zs
+  levels_fit h k l = record {
+    enough = leb-true n.nodes (length row) h;
+    fits = fits money n (flow_in n) (potential money row) k;
+    small = λ v m. leb-true (money.size (potential money row v)) 1000000 (below n.nodes (λ v. leb (money.size (potential money row v)) 1000000) l v m);
+  }

@@ -1,0 +1,5 @@
+pub mod Calls
+pub mod Clearing
+pub mod Texts
+pub mod Chain
+pub mod Cases

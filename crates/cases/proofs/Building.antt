@@ -1,5 +1,5 @@
 -- Single calls that are accepted, and the one that is refused, by tests that compute.
-use Rattle.std.proofs.Common.{◌≡◌, ℕ, zero, suc, ◌+◌, ◌<◌, ◌≤◌, Bool, true, false, not, ◌&&◌, ◌||◌, eqb, ltb, leb, T, List, [], ◌∷◌, ◌++◌, map, length, ℤ, pos, negsuc, int_lt, ◌<ℤ◌, Ok, Err, Some, None, Option, ◌⊎◌, sym, refl, ap, ◌∙◌, subst, inl, inr, ⊎_elim, arith}
+use Rattle.std.proofs.Common.{◌≡◌, ℕ, zero, suc, ◌+◌, ◌<◌, ◌≤◌, Bool, true, false, not, ◌&&◌, eqb, ltb, leb, T, List, [], ◌∷◌, ◌++◌, length, ℤ, pos, negsuc, int_lt, ◌<ℤ◌, Ok, Err, Some, None, Option, ◌⊎◌, sym, refl, subst, ⊎_elim, arith}
 use Rattle.std.proofs.lemmas.Bool.{both_ways, and_parts, not-true, ltb-true, leb-true, eqb-true, eq-eqb, lt-ltb}
 use Rattle.std.specs.List.{AllByRecursion}
 use Rattle.tables.specs.Refusals.{Row, when, First}
@@ -17,7 +17,7 @@ use Rattle.round.specs.Naming.{naming}
 use Rattle.round.specs.Holdings.{placed, Strange, Crowded}
 use Rattle.round.specs.Offering.{made, offering}
 use Rattle.haul_table.specs.Roads.{with_arc, road_rows, Roaded}
-use Rattle.cases.specs.Calls.{numbered, done, refused, Call, item, member, hold, offer, Calls, Roads}
+use Rattle.cases.specs.Calls.{numbered, done, refused, item, member, hold, offer, Calls, Roads}
 
 -- no row holds
 abbrev NoneOf : List Row → Type 0
@@ -90,8 +90,7 @@ takes_holding b m i units h =
     let l : Holding = record { member = m; item = i; units = units } in
     let p = and_parts (ltb m (length b.members)) (ltb i (length b.items) && (ltb (length b.holdings) 128 && leb units 1000)) h in
     let q = and_parts (ltb i (length b.items)) (ltb (length b.holdings) 128 && leb units 1000) p.1 in
-    let r = and_parts (ltb (length b.holdings) 128) (leb units 1000) q.1 in
-    (
+    let r = and_parts (ltb (length b.holdings) 128) (leb units 1000) q.1 in (
       Ok tt,
       record {
         refused = first_none (when 1 (Strange b m i) ∷ when 2 (Crowded b.holdings l) ∷ when 3 (1000 < units) ∷ []) (neither (not_below (length b.members) m p.0) (not_below (length b.items) i q.0), ((λ c. not_below 128 (length b.holdings) r.0 c.0), (not_over 1000 units r.1, tt)));
@@ -163,13 +162,23 @@ single m limit g w = made m limit (g ∷ []) (w ∷ [])
 
 -- the rows above the last hold of no fair offer
 before_loop : (b : Book) (m limit : ℕ) (g w : Line) → FairOffer b m limit g w → (r : Option ℕ) → First (when 8 (books.Loop (g ∷ []) (w ∷ [])) ∷ []) r → First (offering b (single m limit g w)) r
-before_loop b m limit g w f r h =
-    (λ p. absurd (neither f.known (no_side (λ l. length b.items ≤ l.item) g w f.give.known f.get.known) p), λ _.
-    (λ p. absurd (neither f.few f.lines p), λ _.
-    (λ p. absurd (neither f.limit (no_side (λ l. Out l.limit) g w f.give.limit f.get.limit) p), λ _.
-    (λ p. absurd (no_side (λ l. 1000000 < l.price) g w f.give.price f.get.price p), λ _.
-    (λ p. absurd (neither (one_apart g.item) (one_apart w.item) p), λ _.
-    (λ p. absurd (neither (λ e. let z : 1 ≡ 0 = e in omega arith) (λ e. let z : 1 ≡ 0 = e in omega arith) p), λ _. h))))))
+before_loop b m limit g w f r h = (
+  λ p. absurd (neither f.known (no_side (λ l. length b.items ≤ l.item) g w f.give.known f.get.known) p),
+  λ _. (
+    λ p. absurd (neither f.few f.lines p),
+    λ _. (
+      λ p. absurd (neither f.limit (no_side (λ l. Out l.limit) g w f.give.limit f.get.limit) p),
+      λ _. (
+        λ p. absurd (no_side (λ l. 1000000 < l.price) g w f.give.price f.get.price p),
+        λ _. (
+          λ p. absurd (neither (one_apart g.item) (one_apart w.item) p),
+          λ _.
+              (λ p. absurd (neither (λ e. let z : 1 ≡ 0 = e in omega arith) (λ e. let z : 1 ≡ 0 = e in omega arith) p), λ _. h),
+        ),
+      ),
+    ),
+  ),
+)
 
 no_loop : (g w : Line) → loops g w ≡ false → books.Loop (g ∷ []) (w ∷ []) → ⊥
 no_loop g w h = no_any (λ g. (g.item ≡ 0) × Any (λ w. (w.item ≡ 0) × (g.price < w.price)) (w ∷ [])) (g ∷ []) ((λ p. no_any (λ w. (w.item ≡ 0) × (g.price < w.price)) (w ∷ []) ((λ q. both_ways (loops g w) h (holds p.0 q.0 q.1)), tt) p.1), tt)
@@ -210,12 +219,19 @@ roaded n a h =
     let t = and_parts (leb a.weeks 1) (not (int_lt a.price (negsuc 999999)) && not (int_lt (pos 1000000) a.price)) s.1 in
     let u = and_parts (not (int_lt a.price (negsuc 999999))) (not (int_lt (pos 1000000) a.price)) t.1 in
     record {
-        refused = first_none (road_rows n.nodes (length n.arcs) a) (
-          neither (not_below n.nodes a.from p.0) (not_below n.nodes a.to q.0),
-          (not_below 256 (length n.arcs) r.0,
-          (neither (not_over 1000 a.capacity s.0) (not_over 1 a.weeks t.0),
-          (neither (lower a.price (negsuc 999999) u.0) (lower (pos 1000000) a.price u.1),
-          tt))));
+      refused = first_none (road_rows n.nodes (length n.arcs) a) (
+        neither (not_below n.nodes a.from p.0) (not_below n.nodes a.to q.0),
+        (
+          not_below 256 (length n.arcs) r.0,
+          (
+            neither (not_over 1000 a.capacity s.0) (not_over 1 a.weeks t.0),
+            (
+              neither (lower a.price (negsuc 999999) u.0) (lower (pos 1000000) a.price u.1),
+              tt,
+            ),
+          ),
+        ),
+      );
       outcome = (refl, refl);
     }
 

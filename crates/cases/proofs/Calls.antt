@@ -1,27 +1,19 @@
 -- Calls go in one way, and tests that compute tell which.
-use Rattle.std.proofs.Common.{◌≡◌, ℕ, zero, suc, ◌+◌, ◌<◌, ◌≤◌, Bool, true, false, not, ◌&&◌, ◌||◌, eqb, ltb, leb, List, [], ◌∷◌, ◌++◌, map, length, ℤ, pos, negsuc, ◌≤ℤ◌, ◌<ℤ◌, int_lt, Ok, Err, Result, Some, None, Option, MatchResult, sym, refl, ap, ap₂, ◌∙◌, subst, inl, inr, ⊎_elim, arith}
-use Rattle.std.proofs.lemmas.Bool.{both_ways, and_parts, not-true, ltb-true, leb-true, eqb-true, eq-eqb, ltb-false, leb-false, cases_Bool, or_parts}
-use Rattle.std.specs.List.{AllByRecursion}
+use Rattle.std.proofs.Common.{◌≡◌, ℕ, ◌<◌, List, [], ◌∷◌, ◌++◌, length, Ok, Err, Result, Some, None, Option, MatchResult, sym, refl, ap, ap₂, ◌∙◌, subst, arith}
 use Rattle.tables.specs.Refusals.{Row, when, First, refusal, number}
 use Rattle.tables.specs.declared.refusal.Refusal.{Refusal}
-use Rattle.tables.specs.declared.refusal.Refusal.TheVariants.{Loop}
 use Rattle.layout.proofs.Lines.{answer_once}
 use Rattle.flow.specs.declared.arc.Arc.{Arc}
 use Rattle.network.specs.Networks.{Net}
-use Rattle.book.specs.Spelling.{Spelt, name_bytes}
-use Rattle.book.specs.Books.{Book, Offer, Any, Twice, line_count}
-use Rattle.book.specs.Books as books
+use Rattle.book.specs.Books.{Book}
 use Rattle.book.specs.Arcs.{net_of}
-use Rattle.book.specs.declared.line.Line.{Line}
 use Rattle.book.specs.declared.holding.Holding.{Holding}
-use Rattle.terms.specs.Lines.{Out}
 use Rattle.round.specs.Rounds.{fresh, with_items, with_members, with_holdings, with_offers}
 use Rattle.round.specs.Naming.{naming}
 use Rattle.round.specs.Holdings.{placed, Strange, Crowded}
 use Rattle.round.specs.Offering.{made, offering}
-use Rattle.round.specs.Closed.{Closes}
 use Rattle.haul_table.specs.Roads.{empty, with_arc, road_rows}
-use Rattle.cases.specs.Calls.{Answer, numbered, done, refused, with_number, with_nothing, Run, stopped, went, ComeBack, Call, item, member, hold, offer, Calls, Closed, Roads, Hauling}
+use Rattle.cases.specs.Calls.{Answer, numbered, refused, with_number, with_nothing, Run, stopped, went, Lead, Call, item, member, hold, offer, Calls, Built, Close, Closed, Roads, Hauled}
 
 -- one call does one thing
 
@@ -71,23 +63,22 @@ module _ {S C : Type 0} {Does : S → C → Answer → S → Type 0} (does_once 
       let rest = run_once r (subst (λ z. Run Does z cs ys u) (sym h.1) w) in
       (ap₂ ◌∷◌ h.0 rest.0, rest.1)
 
-  come_back : {s t : S} {calls : List C} {answers : List Answer} → Run Does s calls answers t → ComeBack Does s calls answers
-  come_back {t = t} r = record { can = (t, r); only = λ told u w. sym (run_once r w).0 }
+  lead : {s t : S} {calls : List C} {answers : List Answer} → Run Does s calls answers t → (P : S → Type 0) → P t → Lead Does s calls answers P
+  lead {t = t} r P p = record { some = (t, r); every = λ told u w. let h = run_once r w in (sym h.0, subst P h.1 p) }
 
 -- calls that go so, and then some
 pub run_on : {S C : Type 0} {Does : S → C → Answer → S → Type 0} {s t u : S} {calls more : List C} {told xs : List Answer} → Run Does s calls told t → Run Does t more xs u → Run Does s (calls ++ more) (told ++ xs) u
 run_on stopped w = w
 run_on (went p r) w = went p (run_on r w)
 
-pub built : {t : Book} {calls : List Call} {answers : List Answer} → Run Calls fresh calls answers t → ComeBack Calls fresh calls answers
-built r = come_back calls_once r
+-- what holds of the book that the calls can leave
+pub built : {b : Book} {calls : List Call} {answers : List Answer} → Run Calls fresh calls answers b → (P : Book → Type 0) → P b → Built calls answers P
+built r P p = lead calls_once r P p
 
-pub laid : {t : Net} {roads : List Arc} {answers : List Answer} → Run Roads empty roads answers t → ComeBack Roads empty roads answers
-laid r = come_back roads_once r
+-- of its network
+pub closed : {b : Book} {calls : List Call} {answers : List Answer} → Run Calls fresh calls answers b → (P : Net → Type 0) → P (net_of b) → Closed calls answers P
+closed {b} r P p = lead calls_once r (λ c. Close c P) (record { some = (b, net_of b, record { book = refl; net = refl }); every = λ after n c. subst P (sym c.net) p })
 
--- what holds of the network of the book that the calls can leave holds wherever they lead
-pub closed : {t : Book} {calls : List Call} {answers : List Answer} → Run Calls fresh calls answers t → (P : Net → Type 0) → P (net_of t) → Closed calls P
-closed r P h told b after n w c = subst P (ap net_of (run_once calls_once r w).1 ∙ sym c.net) h
-
-pub hauling : {t : Net} {roads : List Arc} {answers : List Answer} → Run Roads empty roads answers t → (P : Net → Type 0) → P t → Hauling roads P
-hauling r P h told n w = subst P (run_once roads_once r w).1 h
+-- and of the haul table
+pub hauled : {n : Net} {roads : List Arc} {answers : List Answer} → Run Roads empty roads answers n → (P : Net → Type 0) → P n → Hauled roads answers P
+hauled r P p = lead roads_once r P p

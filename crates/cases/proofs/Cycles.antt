@@ -1,11 +1,11 @@
 -- Every cycle that can be gone along, by a test that computes.
-use Rattle.std.proofs.Common.{◌≡◌, ℕ, zero, suc, ◌+◌, ◌<◌, ◌≤◌, Bool, true, false, not, ◌&&◌, ◌||◌, eqb, ltb, List, [], ◌∷◌, length, sym, refl, ap, ◌∙◌, subst, ⊎_elim, arith}
-use Rattle.std.proofs.lemmas.Bool.{both_ways, and_parts, and_from, or_from, not-true, eqb-true, eq-eqb, ne_eqb, lt-ltb, cases_eq}
+use Rattle.std.proofs.Common.{◌≡◌, ℕ, zero, suc, ◌<◌, ◌≤◌, Bool, true, false, not, ◌&&◌, ◌||◌, eqb, ltb, List, [], ◌∷◌, length, sym, refl, ap, ◌∙◌, subst, ⊎_elim, arith}
+use Rattle.std.proofs.lemmas.Bool.{both_ways, and_parts, and_from, or_from, not-true, eq-eqb, ne_eqb, lt-ltb, cases_eq}
 use Rattle.std.specs.List.{AllByRecursion}
 use Rattle.worth.specs.Kinds.{Ops, Laws}
-use Rattle.flow.specs.Groups.{Kind, kind, times}
+use Rattle.flow.specs.Groups.{times}
 use Rattle.flow.specs.Graphs.{Graph, Sound}
-use Rattle.flow.specs.Steps.{arc, start, stop, residual, Open, Walk, starts, Fresh, Apart, Gainful, gain, Allows}
+use Rattle.flow.specs.Steps.{arc, start, stop, residual, Walk, starts, Fresh, Apart, Gainful, gain, Allows}
 use Rattle.flow.specs.declared.step.Step.{Step}
 use Rattle.flow.specs.declared.step.Step.TheVariants.{Forward, Backward}
 use Rattle.flow.proofs.Holes.{pigeonhole}

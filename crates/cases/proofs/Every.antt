@@ -1,21 +1,21 @@
 -- What every outcome of improve and clear comes to, where flows are known that potentials fit.
-use Rattle.std.proofs.Common.{◌≡◌, ℕ, ◌+◌, ◌*◌, ◌<◌, ◌≤◌, false, List, length, Ok, Err, Result, Some, None, Option, MatchResult, sym, refl, ap, ◌∙◌, subst, subst₂, arith}
+use Rattle.std.proofs.Common.{◌≡◌, ℕ, ◌≤◌, false, List, length, Ok, Err, Result, Some, None, Option, MatchResult, sym, refl, ap, ◌∙◌, subst, arith}
 use Rattle.std.proofs.lemmas.Bool.{both_ways}
 use Rattle.worth.specs.Kinds.{Ops, Laws}
 use Rattle.flow.specs.Groups.{Kind, kind, Le, Lt, times}
-use Rattle.flow.specs.Graphs.{Graph, Circulation, Within, worth, Fits}
+use Rattle.flow.specs.Graphs.{Circulation, Within, worth, Fits}
 use Rattle.flow.specs.Steps.{gain}
 use Rattle.flow.specs.Arcs.{net}
 use Rattle.flow.specs.Optimality.{Best as BestFlows}
 use Rattle.flow.proofs.Enough.{sufficient_holds}
 use Rattle.flow.proofs.Rows.{net_same}
 use Rattle.flow.proofs.Shift.{rise_holds}
-use Rattle.flow.proofs.Group.{left_comm, unit_right, le_lt_absurd}
+use Rattle.flow.proofs.Group.{unit_right}
 use Rattle.tables.specs.declared.refusal.Refusal.{Refusal}
 use Rattle.network.specs.Networks.{Net, flow_in, graph, value}
 use Rattle.search.specs.Outcomes.{Improves, Climb, still, more, Improving, Clearing, Short}
-use Rattle.search.specs.Uses.{Use, improved, cleared, Unbeaten, Standing}
-use Rattle.cases.specs.Clearing.{Improve, Best, RisesOnce, Clears}
+use Rattle.search.specs.Uses.{Use, improved, cleared, Unbeaten}
+use Rattle.cases.specs.Clearing.{Best, RisesOnce, Clears}
 use Rattle.cases.proofs.Some.{standing, graph_sound, best_some, improve_some, clear_some}
 
 module _ {W : Type 0} {o : Ops W} (laws : Laws o) where
@@ -51,8 +51,8 @@ module _ {W : Type 0} {o : Ops W} (laws : Laws o) where
         let best' : BestFlows o (graph o n) (flow_in t) = subst (λ N. BestFlows o N (flow_in t)) (sym e) best in
         sym x
         ∙ laws.connected (worth o (graph o n) (flow_in t)) (worth o (graph o n) f.flows)
-          (best' f.flows f.circulation f.within)
-          (top (flow_in t) (subst (λ N. Circulation N (flow_in t)) (sym e) st.circulation) (subst (λ N. Within N (flow_in t)) (sym e) st.within))
+        (best' f.flows f.circulation f.within)
+        (top (flow_in t) (subst (λ N. Circulation N (flow_in t)) (sym e) st.circulation) (subst (λ N. Within N (flow_in t)) (sym e) st.within))
         ∙ f.is
 
     -- and flows worth as much are unbeaten

@@ -1,5 +1,5 @@
 -- Arcs with other flows on them, and rows of worths with their first entries written over.
-use Rattle.std.proofs.Common.{◌≡◌, ℕ, zero, suc, ◌+◌, ◌*◌, ◌<◌, ◌≤◌, List, [], ◌∷◌, length, slice_index_or, sym, refl, ap, ◌∙◌, subst, arith}
+use Rattle.std.proofs.Common.{◌≡◌, ℕ, zero, suc, ◌<◌, ◌≤◌, List, [], ◌∷◌, length, sym, refl, ap, subst, arith}
 use Rattle.worth.specs.Kinds.{Ops}
 use Rattle.flow.specs.declared.arc.Arc.{Arc}
 use Rattle.flow.specs.Arcs.{with_flow, arc_at, flow_of, SameArc, SameArcs}

@@ -8,5 +8,5 @@ pub mod Tests
 pub mod Cycles
 pub mod Rounds
 pub mod Records
-pub mod Numbers
-pub mod Texted
+pub mod Cleared
+pub mod Texts

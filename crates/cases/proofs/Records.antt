@@ -1,34 +1,33 @@
--- Records of the chain round: what check comes to on their texts.
-use Rattle.std.proofs.Common.{◌≡◌, ℕ, zero, suc, ◌<◌, ◌≤◌, Bool, true, false, ◌&&◌, leb, List, [], ◌∷◌, map, length, ℤ, pos, negsuc, Ok, Err, Result, Some, None, Option, MatchResult, sym, refl, ap, ◌∙◌, subst, inl, inr, arith}
-use Rattle.std.proofs.lemmas.Bool.{both_ways, and_parts, leb-true}
+-- Records, by what they hold: that they read, and what check comes to on them.
+use Rattle.std.proofs.Common.{◌≡◌, ℕ, ◌≤◌, Bool, true, ◌&&◌, eqb, leb, List, [], ◌∷◌, length, ℤ, Ok, Err, Result, Some, None, Option, MatchResult, sym, refl, ap, ◌∙◌, subst, inl, inr, arith}
+use Rattle.std.proofs.lemmas.Bool.{and_parts, leb-true, eqb-true}
 use Rattle.std.specs.List.{AllByRecursion}
-use Rattle.tables.specs.Refusals.{when, First, number, refusal}
+use Rattle.tables.specs.Refusals.{First, number}
 use Rattle.tables.specs.declared.refusal.Refusal.{Refusal}
 use Rattle.text.specs.declared.fault.Fault.{Fault}
-use Rattle.worth.specs.Money.{money, of_cents}
-use Rattle.worth.specs.declared.money.Money.{Money as MoneyWorth}
-use Rattle.network.specs.Networks.{Net, flow_in, value}
+use Rattle.worth.specs.Kinds.{Ops}
+use Rattle.worth.specs.Money.{money}
+use Rattle.network.specs.Networks.{Net, flow_in}
 use Rattle.network.specs.Potentials.{potential, Fitted}
-use Rattle.book.specs.Allotments.{Allotment, Units, Allowed}
+use Rattle.book.specs.Allotments.{Allotment, Allowed}
 use Rattle.book.specs.Arcs.{net_of, nodes, filled}
 use Rattle.book.specs.Books.{Book, Offer, Sound}
 use Rattle.book.specs.Rows.{AllWith, map_with}
 use Rattle.book.specs.declared.line.Line.{Line}
 use Rattle.book.proofs.Best.{allowed_is_circulation_lem}
-use Rattle.layout.specs.Records.{by_money, Contents, book_of, allotted, level_size, FairLevel, FairAllotment, contents_of, Valid}
+use Rattle.layout.specs.Records.{Kind, parts, Contents, book_of, allotted, level_size, FairLevel, FairAllotment, contents_of}
 use Rattle.layout.specs.Render.{render}
-use Rattle.layout.specs.Runs.{Reads, Refused}
+use Rattle.layout.specs.Runs.{Reads}
 use Rattle.layout.proofs.Lines.{answer_once}
 use Rattle.layout.proofs.Once.{one_outcome}
 use Rattle.layout.proofs.Recorded.{all_recorded}
 use Rattle.layout.proofs.Renders.{reads_records}
-use Rattle.record.specs.Checks.{total_by, result_of, Answered, failing, Fails, Checks}
-use Rattle.record.specs.Evidence.{amount, LevelsFit, network_of, Passes}
+use Rattle.record.specs.Checks.{total_by, result_of, Answered, failing, Checks}
+use Rattle.record.specs.Evidence.{LevelsFit, network_of, Passes}
 use Rattle.record.specs.declared.passed.Passed.{Passed}
 use Rattle.record.specs.declared.passed.OfferResult.{OfferResult}
-use Rattle.record.specs.declared.passed.Total.TheVariants.{Money}
-use Rattle.cases.specs.Texts.{Check, PassesWith}
-use Rattle.cases.specs.Texts as texts
+use Rattle.record.specs.declared.passed.Total.{Total}
+use Rattle.cases.specs.Texts.{RecordOf, Passing, Failing}
 use Rattle.cases.proofs.Tests.{all_below, below, balanced, circulates, inside, within, left_fits, flow_fits, fits}
 
 -- the number that check refuses with, or none, and line 0
@@ -62,24 +61,28 @@ none≢some n e = let z : ◌≡◌ {A = ℕ} 0 1 = cc in omega arith
 some_same : (m n : ℕ) → ◌≡◌ {A = Option ℕ} (Some m) (Some n) → m ≡ n
 some_same m n e = cc
 
+-- the text is a record of the contents' book
+pub record_of : (text : List ℕ) (x : Contents) → Reads text x → RecordOf text x.kind (book_of x)
+record_of text x reads = record { some = (x, reads); every = λ y r. let e = one_outcome.one_reading text y x r reads in (ap (λ z. z.kind) e, ap book_of e) }
+
 -- contents that pass
-pub passes_with : (text : List ℕ) (x : Contents) (cents : ℕ) (offers : List OfferResult) → Reads text x → Allowed (book_of x) (allotted x) → LevelsFit x.kind (network_of x) x.levels → total_by x.kind (network_of x) ≡ Money (of_cents (pos cents)) → map_with result_of (book_of x).offers (allotted x) ≡ offers → PassesWith text cents offers
-passes_with text x cents offers reads allowed fit w os = record { some = (Ok p, (x, record { reads = reads; allowed = allowed; fits = fit }, record { worth = refl; offers = refl })); every = every }
+pub passing : (text : List ℕ) (x : Contents) (worth : Total) (offers : List OfferResult) → Reads text x → Allowed (book_of x) (allotted x) → LevelsFit x.kind (network_of x) x.levels → total_by x.kind (network_of x) ≡ worth → map_with result_of (book_of x).offers (allotted x) ≡ offers → Passing text worth offers
+passing text x worth offers reads allowed fit w os = record { some = (Ok p, (x, record { reads = reads; allowed = allowed; fits = fit }, record { worth = refl; offers = refl })); every = every }
   where
     p : Passed
     p = record { worth = total_by x.kind (network_of x); offers = map_with result_of (book_of x).offers (allotted x) }
 
-    every : (r : Result Passed Fault) → Checks text r → MatchResult r (λ p. (p.worth ≡ Money (of_cents (pos cents))) × (p.offers ≡ offers)) (λ _. ⊥)
+    every : (r : Result Passed Fault) → Checks text r → MatchResult r (λ p. (p.worth ≡ worth) × (p.offers ≡ offers)) (λ _. ⊥)
     every (Ok p) h = let a = answered_once text x reads p h in (a.0 ∙ w, a.1 ∙ os)
     every (Err d) h = none≢some (number d.refusal) (sym (one_answer text x reads None ((λ f. absurd (f allowed)), λ _. ((λ f. absurd (f fit)), λ _. refl)) (Err d) h))
 
 -- contents that fail
-pub fails : (text : List ℕ) (x : Contents) (e : Refusal) → Reads text x → First (failing x) (Some (number e)) → texts.Fails text (number e)
-fails text x e reads f = record { some = (Err (record { refusal = e; line = 0 }), inr (record { contents = x; reads = reads; first = f; line = refl })); every = every }
+pub failing_with : (text : List ℕ) (x : Contents) (e : Refusal) (n : ℕ) → Reads text x → First (failing x) (Some (number e)) → number e ≡ n → Failing text n
+failing_with text x e n reads f is = record { some = (Err (record { refusal = e; line = 0 }), inr (record { contents = x; reads = reads; first = f; line = refl })); every = every }
   where
-    every : (r : Result Passed Fault) → Checks text r → MatchResult r (λ _. ⊥) (λ d. (number d.refusal ≡ number e) × (d.line ≡ 0))
+    every : (r : Result Passed Fault) → Checks text r → MatchResult r (λ _. ⊥) (λ d. (number d.refusal ≡ n) × (d.line ≡ 0))
     every (Ok p) h = none≢some (number e) (one_answer text x reads (Some (number e)) f (Ok p) h)
-    every (Err d) h = (some_same (number d.refusal) (number e) (one_answer text x reads (Some (number e)) f (Err d) h), no_line text x reads d h)
+    every (Err d) h = (some_same (number d.refusal) (number e) (one_answer text x reads (Some (number e)) f (Err d) h) ∙ is, no_line text x reads d h)
 
 -- as many units on each line
 abbrev pub all : ℕ → Allotment
@@ -93,23 +96,20 @@ fair_all : (units : ℕ) → units ≤ 1000 → (os : List Offer) → FairAllotm
 fair_all units h [] = tt
 fair_all units h (o ∷ os) = ((fair_side units h o.give, fair_side units h o.get), fair_all units h os)
 
-abbrev are_small : List ℤ → Bool
-are_small [] = true
-are_small (z ∷ zs) = leb (level_size (z ∷ [])) 1000000 && are_small zs
+abbrev are_fair : Kind → List (List ℤ) → Bool
+are_fair k [] = true
+are_fair k (z ∷ zs) = eqb (length z) (parts k) && (leb (level_size z) 1000000 && are_fair k zs)
 
--- levels by money
-abbrev pub levels : List ℤ → List (List ℤ)
-levels zs = map (λ z. z ∷ []) zs
+fair_levels : (k : Kind) (zs : List (List ℤ)) → are_fair k zs ≡ true → AllByRecursion (FairLevel k) zs
+fair_levels k [] h = tt
+fair_levels k (z ∷ zs) h =
+    let p = and_parts (eqb (length z) (parts k)) (leb (level_size z) 1000000 && are_fair k zs) h in
+    let q = and_parts (leb (level_size z) 1000000) (are_fair k zs) p.1 in
+    ((eqb-true (length z) (parts k) p.0, leb-true (level_size z) 1000000 q.0), fair_levels k zs q.1)
 
-fair_levels : (zs : List ℤ) → are_small zs ≡ true → AllByRecursion (FairLevel by_money) (levels zs)
-fair_levels [] h = tt
-fair_levels (z ∷ zs) h = let p = and_parts (leb (level_size (z ∷ [])) 1000000) (are_small zs) h in ((refl, leb-true (level_size (z ∷ [])) 1000000 p.0), fair_levels zs p.1)
-
--- a record of a sound book reads
-pub record_reads : (text : List ℕ) (b : Book) (units : ℕ) (zs : List ℤ) → Sound b → leb units 1000 ≡ true → are_small zs ≡ true → length (levels zs) ≡ nodes b → text ≡ render (contents_of by_money b (all units) (levels zs)) → Reads text (contents_of by_money b (all units) (levels zs))
-record_reads text b units zs s h k long e =
-    let x = contents_of by_money b (all units) (levels zs) in
-    (reads_records text x).1 (e, (all_recorded by_money b (all units) (levels zs)).valid s (fair_all units (leb-true units 1000 h) b.offers) (fair_levels zs k) long)
+-- a record of a sound book, with as many units on each line, reads
+pub reading : (text : List ℕ) (k : Kind) (b : Book) (units : ℕ) (zs : List (List ℤ)) → Sound b → leb units 1000 ≡ true → are_fair k zs ≡ true → length zs ≡ nodes b → text ≡ render (contents_of k b (all units) zs) → Reads text (contents_of k b (all units) zs)
+reading text k b units zs s h fair long e = (reads_records text (contents_of k b (all units) zs)).1 (e, (all_recorded k b (all units) zs).valid s (fair_all units (leb-true units 1000 h) b.offers) (fair_levels k zs fair) long)
 
 -- an allotment that fills the network with a circulation within the capacities is allowed
 module _ (b : Book) (a : Allotment) (s : Sound b) where
@@ -120,13 +120,10 @@ module _ (b : Book) (a : Allotment) (s : Sound b) where
   allowed_by h k = (allowed_is_circulation_lem money b a s).1 (record { within = within money (net_of b) flow k; balanced = circulates money (net_of b) flow h })
 
 -- levels that fit
-module _ (n : Net) (zs : List (List ℤ)) where
-  abbrev row : List MoneyWorth
-  row = map amount zs
-
-  pub levels_fit : leb n.nodes (length row) ≡ true → all_below (length n.arcs) (λ i. left_fits money n (flow_in n) (potential money row) i && flow_fits money n (flow_in n) (potential money row) i) ≡ true → all_below n.nodes (λ v. leb (money.size (potential money row v)) 1000000) ≡ true → LevelsFit by_money n zs
-  levels_fit h k l = record {
+module _ {W : Type 0} (o : Ops W) (n : Net) (row : List W) where
+  pub fitted : leb n.nodes (length row) ≡ true → all_below (length n.arcs) (λ i. left_fits o n (flow_in n) (potential o row) i && flow_fits o n (flow_in n) (potential o row) i) ≡ true → all_below n.nodes (λ v. leb (o.size (potential o row v)) 1000000) ≡ true → Fitted o n row
+  fitted h k l = record {
     enough = leb-true n.nodes (length row) h;
-    fits = fits money n (flow_in n) (potential money row) k;
-    small = λ v m. leb-true (money.size (potential money row v)) 1000000 (below n.nodes (λ v. leb (money.size (potential money row v)) 1000000) l v m);
+    fits = fits o n (flow_in n) (potential o row) k;
+    small = λ v m. leb-true (o.size (potential o row v)) 1000000 (below n.nodes (λ v. leb (o.size (potential o row v)) 1000000) l v m);
   }

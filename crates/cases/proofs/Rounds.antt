@@ -1,11 +1,13 @@
 -- The rounds and the haul table of the worked cases, as their calls build them.
-use Rattle.std.proofs.Common.{◌≡◌, ℕ, ◌≤◌, Bool, true, leb, List, [], ◌∷◌, ◌++◌, length, ℤ, pos, negsuc, codes, Ok, sym, refl, ap, ◌∙◌, subst, arith}
-use Rattle.worth.specs.Kinds.{Ops, Laws}
+use Rattle.std.proofs.Common.{◌≡◌, ℕ, true, leb, List, [], ◌∷◌, ◌++◌, pos, negsuc, codes, Ok, refl}
+use Rattle.worth.specs.Kinds.{Ops}
 use Rattle.worth.specs.Money.{money}
 use Rattle.worth.specs.Integers.{money_laws}
 use Rattle.flow.specs.declared.arc.Arc.{Arc}
+use Rattle.tables.specs.Refusals.{number}
+use Rattle.tables.specs.declared.refusal.Refusal.TheVariants.{Loop}
 use Rattle.flow.specs.Arcs as arcs
-use Rattle.network.specs.Networks.{Net, flow_in}
+use Rattle.network.specs.Networks.{Net}
 use Rattle.search.specs.Uses.{Use, begun}
 use Rattle.book.specs.Books.{Book}
 use Rattle.book.specs.Books as books
@@ -89,7 +91,7 @@ cash_run units h = run_on started (went (takes_holding (unoffered two) 2 0 units
 abbrev north : Book
 north = record { items = codes "cash" ∷ []; members = codes "north" ∷ []; holdings = []; offers = [] }
 
-pub loop_run : Run Calls fresh (cash_for_cash 20 40) (numbered 0 ∷ refused 8 ∷ []) north
+pub loop_run : Run Calls fresh (cash_for_cash 20 40) (numbered 0 ∷ refused (number Loop) ∷ []) north
 loop_run = went (takes_member _ (codes "north") refl) (went (refuses_loop north 0 5 (line 0 5 20) (line 0 5 40) refl refl) stopped)
 
 abbrev cash_offered : ℕ → ℕ → Book
@@ -103,8 +105,8 @@ lower_run = went (takes_member _ (codes "north") refl) (went (takes_offer north 
 
 -- the two roads
 
-abbrev pub hauled : Net
-hauled = record { nodes = 64; arcs = two_roads }
+abbrev pub road_net : Net
+road_net = record { nodes = 64; arcs = two_roads }
 
 abbrev first : Arc
 first = arcs.fresh 0 1 4 (negsuc 29) 0
@@ -112,13 +114,13 @@ first = arcs.fresh 0 1 4 (negsuc 29) 0
 abbrev second : Arc
 second = arcs.fresh 1 0 3 (pos 50) 0
 
-pub road_run : Run Roads empty two_roads (numbered 0 ∷ numbered 1 ∷ []) hauled
+pub road_run : Run Roads empty two_roads (numbered 0 ∷ numbered 1 ∷ []) road_net
 road_run = went (takes_road empty first refl) (went (takes_road (with_arc empty first) second refl) stopped)
 
-pub roads_begin : Use money hauled money.none
+pub roads_begin : Use money road_net money.none
 roads_begin =
-    begun (law_holds money_laws hauled money.none (
-    hauls.roaded hauled 1 0 3 (pos 50) 0 (Ok 1) (
+    begun (law_holds money_laws road_net money.none (
+    hauls.roaded road_net 1 0 3 (pos 50) 0 (Ok 1) (
     hauls.roaded (with_arc empty first) 0 1 4 (negsuc 29) 0 (Ok 0) hauls.made (roaded empty first refl))
     (roaded (with_arc empty first) second refl))).sound
     (still two_roads)

@@ -1,21 +1,21 @@
 -- Improve and clear have an outcome wherever a use has led.
-use Rattle.std.proofs.Common.{◌≡◌, ℕ, zero, suc, ◌+◌, ◌*◌, ◌<◌, ◌≤◌, List, [], ◌∷◌, length, Ok, Err, Result, Some, None, Option, sym, refl, ap, ◌∙◌, subst, subst₂, inl, inr, ◌⊎◌, ⊎_elim, arith}
+use Rattle.std.proofs.Common.{◌≡◌, ℕ, zero, suc, ◌+◌, ◌*◌, ◌<◌, ◌≤◌, List, [], ◌∷◌, length, Ok, Result, Some, None, Option, sym, refl, ◌∙◌, subst, subst₂, inl, inr, ◌⊎◌, ⊎_elim, arith}
 use Rattle.worth.specs.Kinds.{Ops, Laws}
 use Rattle.flow.specs.Groups.{Kind, kind, Le}
 use Rattle.flow.specs.Graphs.{Fits}
 use Rattle.flow.specs.Graphs as graphs
-use Rattle.flow.specs.Steps.{Gainful, Shifted, fore, rear, Allows, gain}
+use Rattle.flow.specs.Steps.{Gainful, fore, rear}
 use Rattle.flow.specs.Optimality.{Potentials}
 use Rattle.flow.specs.declared.step.Step.{Step}
 use Rattle.flow.proofs.Enough.{sufficient_holds}
 use Rattle.flow.proofs.Optimum.{not_best, necessary_holds}
 use Rattle.flow.proofs.Reach.{reach, fits_or_cycle}
 use Rattle.flow.proofs.Shift.{shifting_holds}
-use Rattle.flow.proofs.Group.{le_lt_absurd, le_eq}
+use Rattle.flow.proofs.Group.{le_lt_absurd}
 use Rattle.tables.specs.declared.refusal.Refusal.{Refusal}
-use Rattle.network.specs.Networks.{Net, Sound, SoundArc, flow_in, graph, value}
+use Rattle.network.specs.Networks.{Net, Sound, flow_in, graph, value}
 use Rattle.network.specs.Potentials.{potential, Fitted}
-use Rattle.search.specs.Outcomes.{Improves, Climb, still, more, Idle, Beyond, Nones, Improving, Clearing}
+use Rattle.search.specs.Outcomes.{Improves, Climb, still, more, Idle, Beyond, Improving, Clearing}
 use Rattle.search.specs.Uses.{Use, improved, Unbeaten, Standing}
 use Rattle.search.proofs.Standing.{law_holds}
 use Rattle.search.proofs.Beaten.{beats, measure_falls}
@@ -125,9 +125,9 @@ module _ {W : Type 0} {o : Ops W} (laws : Laws o) where
   up (suc k) s t rise sum u c f work h =
       ⊎_elim (λ best. record { end = t; rise = rise; climb = c; sum = sum; used = u; best = best })
       (λ x. let next : Use o x.after (o.plus sum x.rise) = improved x.after work (written t.nodes (λ v. o.none) work) (Ok (Some x.rise)) u (x.improves, (λ v l. written_at o t.nodes (λ v. o.none) work v h l), beyond t.nodes (λ v. o.none) work h) in
-        let less = measure_falls K t x.after x.rise (standing next).sound x.improves in
-        let same = x.improves.nodes in
-        up k s x.after (o.plus rise x.rise) (o.plus sum x.rise) next (more c x.improves) (omega arith) work (omega arith))
+      let less = measure_falls K t x.after x.rise (standing next).sound x.improves in
+      let same = x.improves.nodes in
+      up k s x.after (o.plus rise x.rise) (o.plus sum x.rise) next (more c x.improves) (omega arith) work (omega arith))
       (more_or_best t sum u)
 
   pub clear_some : (n : Net) (sum : W) → Use o n sum → (work : List W) → n.nodes ≤ length work → (t : Net) × (work' : List W) × (r : Result W Refusal) × Clearing o n t work work' r

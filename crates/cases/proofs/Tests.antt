@@ -1,8 +1,7 @@
 -- Tests that compute, of flows and potentials on a network.
-use Rattle.std.proofs.Common.{◌≡◌, ℕ, zero, suc, ◌+◌, ◌<◌, ◌≤◌, Bool, true, false, not, ◌&&◌, ◌||◌, eqb, ltb, leb, List, length, sym, refl, ap, ◌∙◌, subst, ⊎_elim, arith}
-use Rattle.std.proofs.lemmas.Bool.{both_ways, and_parts, or_cases, not-true, ltb-true, leb-true, eqb-true, lt-ltb, cases_eq}
+use Rattle.std.proofs.Common.{◌≡◌, ℕ, zero, suc, ◌<◌, Bool, true, not, ◌&&◌, ◌||◌, eqb, ltb, leb, length, sym, subst, ⊎_elim, arith}
+use Rattle.std.proofs.lemmas.Bool.{both_ways, and_parts, or_cases, not-true, leb-true, eqb-true, lt-ltb, cases_eq}
 use Rattle.worth.specs.Kinds.{Ops}
-use Rattle.flow.specs.Groups.{Le}
 use Rattle.flow.specs.Graphs.{Circulation, Within, Fits, sum_n, when, coming, going}
 use Rattle.flow.specs.Arcs.{arc_at}
 use Rattle.network.specs.Networks.{Net, graph}

@@ -34,10 +34,10 @@ pub data Run {S C : Type 0} (Does : S → C → Answer → S → Type 0) : S →
   stopped : {s : S} → Run Does s [] [] s
   went : {s t u : S} {c : C} {cs : List C} {a : Answer} {told : List Answer} → Does s c a t → Run Does t cs told u → Run Does s (c ∷ cs) (a ∷ told) u
 
--- the calls can go so, and they come back with these answers however they go
-pub record ComeBack {S C : Type 0} (Does : S → C → Answer → S → Type 0) (s : S) (calls : List C) (answers : List Answer) : Type 0 where
-  pub can : (t : S) × Run Does s calls answers t
-  pub only : (told : List Answer) (t : S) → Run Does s calls told t → told ≡ answers
+-- the calls can come back with these answers; and however they go they come back with them, and P holds of what they leave
+pub record Lead {S C : Type 0} (Does : S → C → Answer → S → Type 0) (s : S) (calls : List C) (answers : List Answer) (P : S → Type 0) : Type 0 where
+  pub some : (t : S) × Run Does s calls answers t
+  pub every : (told : List Answer) (t : S) → Run Does s calls told t → (told ≡ answers) × P t
 
 -- the calls of an open round that build one
 pub data Call : Type 0 where
@@ -53,22 +53,23 @@ Calls b (member s) a t = (r : Result ℕ Refusal) × TakesMember b t s r × (a �
 Calls b (hold m i units) a t = (r : Result (Unit {0}) Refusal) × Holds b t (record { member = m; item = i; units = units }) r × (a ≡ with_nothing r)
 Calls b (offer m limit give get) a t = (r : Result ℕ Refusal) × TakesOffer b t (made m limit give get) r × (a ≡ with_number r)
 
--- the calls on a round that was just opened come back with these answers
-abbrev pub Built : List Call → List Answer → Type 0
-Built calls answers = ComeBack Calls fresh calls answers
+-- from open on the calls come back so, and P holds of the book that they leave
+abbrev pub Built : List Call → List Answer → (Book → Type 0) → Type 0
+Built calls answers P = Lead Calls fresh calls answers P
 
--- whatever network a round has that these calls built, where it is closed
-abbrev pub Closed : List Call → (Net → Type 0) → Type 0
-Closed calls P = (told : List Answer) (b after : Book) (n : Net) → Run Calls fresh calls told b → Closes b after n → P n
+-- a round with this book can be closed, and P holds of the network that it then has
+pub record Close (b : Book) (P : Net → Type 0) : Type 0 where
+  pub some : (after : Book) × (n : Net) × Closes b after n
+  pub every : (after : Book) (n : Net) → Closes b after n → P n
+
+-- the same of a round that is closed after the calls
+abbrev pub Closed : List Call → List Answer → (Net → Type 0) → Type 0
+Closed calls answers P = Built calls answers (λ b. Close b P)
 
 -- what road does to a haul table, as its contract says
 abbrev pub Roads : Net → Arc → Answer → Net → Type 0
 Roads n a answer t = (r : Result ℕ Refusal) × Roaded n t a r × (answer ≡ with_number r)
 
--- the roads of a new haul table come back with these answers
-abbrev pub Laid : List Arc → List Answer → Type 0
-Laid roads answers = ComeBack Roads empty roads answers
-
--- whatever network a haul table has that got these roads
-abbrev pub Hauling : List Arc → (Net → Type 0) → Type 0
-Hauling roads P = (told : List Answer) (n : Net) → Run Roads empty roads told n → P n
+-- on a new haul table the calls of road come back so, and P holds of its network
+abbrev pub Hauled : List Arc → List Answer → (Net → Type 0) → Type 0
+Hauled roads answers P = Lead Roads empty roads answers P

@@ -1,5 +1,5 @@
 -- The worked cases, with the numbers that come out.
-use Rattle.std.specs.Prelude.{◌≡◌, ℕ, List, [], ◌∷◌, ℤ, pos, negsuc, codes}
+use Rattle.std.specs.Prelude.{◌≡◌, ℕ, List, [], ◌∷◌, map, ℤ, pos, negsuc, codes, ⊤}
 use Rattle.worth.specs.Money.{money, of_cents}
 use Rattle.worth.specs.Weeks.{weeks, of_count}
 use Rattle.worth.specs.Lexicographic.{pile, pair}
@@ -9,27 +9,43 @@ use Rattle.worth.specs.declared.lexicographic.Lexicographic.{Lexicographic}
 use Rattle.flow.specs.declared.arc.Arc.{Arc}
 use Rattle.flow.specs.Arcs.{fresh}
 use Rattle.network.specs.Networks.{value}
+use Rattle.layout.specs.Records.{by_money, by_money_then_weeks}
+use Rattle.layout.specs.Render.{ended}
 use Rattle.record.specs.declared.passed.OfferResult.{OfferResult}
-use Rattle.cases.specs.Calls.{numbered, done, refused, Call, member, hold, offer, Built, Closed, Laid, Hauling}
+use Rattle.record.specs.declared.passed.Total.TheVariants as total
+use Rattle.cases.specs.Calls.{numbered, done, refused, Call, member, hold, offer, Built, Closed, Hauled}
 use Rattle.cases.specs.Clearing.{Best, RisesOnce, Clears}
-use Rattle.cases.specs.Texts.{PassesWith, Fails}
-use Rattle.cases.specs.Chain.{line, chain, chain_answers, chain_text, chain_levels, raised_levels, higher_level}
+use Rattle.cases.specs.Texts.{RecordOf, Passing, Failing}
+use Rattle.cases.specs.Chain.{line, chain, chain_answers, money_text, chain_levels, raised_levels, levels_with_79, cash_text, weeks_text}
 
 -- so many cents
 abbrev pub cents : ℕ → Money
 cents n = of_cents (pos n)
 
--- so many cents and weeks
-abbrev pub cents_and_weeks : ℕ × ℕ → Lexicographic Money Weeks
-cents_and_weeks n = pair (of_cents (pos n.0)) (of_count (pos n.1))
+-- so many cents, and so many weeks
+abbrev pub both : ℕ × ℕ → Lexicographic Money Weeks
+both n = pair (of_cents (pos n.0)) (of_count (pos n.1))
 
 -- what an offer comes to
 abbrev pub comes_to : ℤ → ℕ → OfferResult
 comes_to payoff weeks = record { payoff = payoff; weeks = weeks }
 
--- the numbers that come out
+-- the text of the record of an empty round
+abbrev pub empty_text : List ℕ
+empty_text = ended (map codes ("K 1" ∷ "money" ∷ "I 1" ∷ "cash" ∷ "M 0" ∷ "H 0" ∷ "O 0" ∷ "L 1" ∷ "0" ∷ []))
+
+-- roads from 0 to 1 and back
+abbrev pub two_roads : List Arc
+two_roads = fresh 0 1 4 (negsuc 29) 0 ∷ fresh 1 0 3 (pos 50) 0 ∷ []
+
+-- an offer with cash on both sides, given and got at these prices
+abbrev pub cash_for_cash : ℕ → ℕ → List Call
+cash_for_cash given got = member (codes "north") ∷ offer 0 5 (line 0 5 given ∷ []) (line 0 5 got ∷ []) ∷ []
+
+-- the numbers that come out: worths and rises in cents, or in cents and weeks, and the numbers of refusals and of offers
 pub record Numbers : Type 0 where
   pub empty_worth : ℕ
+  pub empty_worth_with_weeks : ℕ × ℕ
   pub chain_rise : ℕ
   pub rise_with_two : ℕ
   pub rise_with_none : ℕ
@@ -37,69 +53,50 @@ pub record Numbers : Type 0 where
   pub rise_at_70_with_weeks : ℕ × ℕ
   pub rise_at_69 : ℕ
   pub rise_at_69_with_weeks : ℕ × ℕ
-  pub record_worth : ℕ
-  pub raised_worth : ℕ
-  pub higher_level : ℕ
-  pub two_units : ℕ
-  pub four_units : ℕ
+  pub empty_record : ℕ
+  pub chain_record : ℕ
+  pub raised_record : ℕ
+  pub cash_record : ℕ
+  pub weeks_record : ℕ × ℕ
+  pub refusal_with_79 : ℕ
+  pub refusal_of_twos : ℕ
+  pub refusal_of_fours : ℕ
   pub roads_rise : ℕ
-  pub cash_at_20_and_40 : ℕ
-  pub cash_at_40_and_40 : ℕ
-  pub cash_at_40_and_20 : ℕ
+  pub refusal_of_loop : ℕ
+  pub offer_at_same_price : ℕ
+  pub offer_at_lower_price : ℕ
 
--- an empty round, closed by money: improve answers best, and the worth is so much
-pub record EmptyRound (worth : ℕ) : Type 0 where
-  pub best : Closed [] (Best money)
-  pub is_worth : Closed [] (λ n. value money n ≡ cents worth)
-
--- the chain round, closed by money: improve rises by so much and then answers best, and clear rises by as much
-pub record ChainRound (rise : ℕ) : Type 0 where
-  pub built : Built (chain [] 160) (chain_answers [])
-  pub improves : Closed (chain [] 160) (RisesOnce money (cents rise))
-  pub clears : Closed (chain [] 160) (Clears money (cents rise))
-
--- the chain round with so much cash held by member 2, closed by money: clear rises by so much
-pub record CashHeld (units rise : ℕ) : Type 0 where
-  pub built : Built (chain (hold 2 0 units ∷ []) 160) (chain_answers (done ∷ []))
-  pub clears : Closed (chain (hold 2 0 units ∷ []) 160) (Clears money (cents rise))
-
--- the chain round with another last price, closed by money, and by money then weeks: clear rises by so much
-pub record LastPrice (price rise : ℕ) (rise_with_weeks : ℕ × ℕ) : Type 0 where
-  pub built : Built (chain [] price) (chain_answers [])
-  pub by_money : Closed (chain [] price) (Clears money (cents rise))
-  pub by_money_then_weeks : Closed (chain [] price) (Clears (pile money weeks) (cents_and_weeks rise_with_weeks))
-
--- what the offers of the chain round come to, with 3 units on each line
-abbrev pub chain_results : List OfferResult
-chain_results = comes_to (negsuc 299) 0 ∷ comes_to (pos 90) 3 ∷ comes_to (pos 480) 3 ∷ []
-
--- a haul table with roads from 0 to 1 and back: clear rises by so much
-abbrev pub two_roads : List Arc
-two_roads = fresh 0 1 4 (negsuc 29) 0 ∷ fresh 1 0 3 (pos 50) 0 ∷ []
-
-pub record TwoRoads (rise : ℕ) : Type 0 where
-  pub laid : Laid two_roads (numbered 0 ∷ numbered 1 ∷ [])
-  pub improves : Hauling two_roads (RisesOnce money (cents rise))
-  pub clears : Hauling two_roads (Clears money (cents rise))
-
--- a member's offer with cash on both sides, at these prices
-abbrev pub cash_for_cash : ℕ → ℕ → List Call
-cash_for_cash given got = member (codes "north") ∷ offer 0 5 (line 0 5 given ∷ []) (line 0 5 got ∷ []) ∷ []
-
--- all of them
-pub record Cases (n : Numbers) : Type 0 where
-  pub empty_round : EmptyRound n.empty_worth
-  pub chain_round : ChainRound n.chain_rise
-  pub two_held : CashHeld 2 n.rise_with_two
-  pub none_held : CashHeld 0 n.rise_with_none
-  pub price_70 : LastPrice 70 n.rise_at_70 n.rise_at_70_with_weeks
-  pub price_69 : LastPrice 69 n.rise_at_69 n.rise_at_69_with_weeks
-  pub chain_record : PassesWith (chain_text (codes "3") chain_levels) n.record_worth chain_results
-  pub raised_record : PassesWith (chain_text (codes "3") raised_levels) n.raised_worth chain_results
-  pub higher_record : Fails (chain_text (codes "3") higher_level) n.higher_level
-  pub twos_record : Fails (chain_text (codes "2") chain_levels) n.two_units
-  pub fours_record : Fails (chain_text (codes "4") chain_levels) n.four_units
-  pub roads : TwoRoads n.roads_rise
-  pub loop : Built (cash_for_cash 20 40) (numbered 0 ∷ refused n.cash_at_20_and_40 ∷ [])
-  pub same_price : Built (cash_for_cash 40 40) (numbered 0 ∷ numbered n.cash_at_40_and_40 ∷ [])
-  pub lower_price : Built (cash_for_cash 40 20) (numbered 0 ∷ numbered n.cash_at_40_and_20 ∷ [])
+-- what comes out
+pub record Cases (x : Numbers) : Type 0 where
+  -- the empty round: improve answers best, and nothing is worth anything
+  pub empty_round : Closed [] [] (λ n. Best money n × (value money n ≡ cents x.empty_worth))
+  pub empty_round_with_weeks : Closed [] [] (λ n. Best (pile money weeks) n × (value (pile money weeks) n ≡ both x.empty_worth_with_weeks))
+  -- the chain round by money: improve rises once, and clear by as much
+  pub chain_round : Closed (chain [] 160) (chain_answers []) (λ n. RisesOnce money (cents x.chain_rise) n × Clears money (cents x.chain_rise) n)
+  -- with 2 units of cash held by member 2, and with 0 units
+  pub two_held : Closed (chain (hold 2 0 2 ∷ []) 160) (chain_answers (done ∷ [])) (Clears money (cents x.rise_with_two))
+  pub none_held : Closed (chain (hold 2 0 0 ∷ []) 160) (chain_answers (done ∷ [])) (Clears money (cents x.rise_with_none))
+  -- with another last price, by money and by money then weeks
+  pub at_70 : Closed (chain [] 70) (chain_answers []) (λ n. Clears money (cents x.rise_at_70) n × Clears (pile money weeks) (both x.rise_at_70_with_weeks) n)
+  pub at_69 : Closed (chain [] 69) (chain_answers []) (λ n. Clears money (cents x.rise_at_69) n × Clears (pile money weeks) (both x.rise_at_69_with_weeks) n)
+  -- the texts are records of those rounds
+  pub is_empty_record : Built [] [] (RecordOf empty_text by_money)
+  pub is_chain_record : Built (chain [] 160) (chain_answers []) (RecordOf (money_text (codes "3") chain_levels) by_money)
+  pub is_cash_record : Built (chain (hold 2 0 2 ∷ []) 160) (chain_answers (done ∷ [])) (RecordOf cash_text by_money)
+  pub is_weeks_record : Built (chain [] 70) (chain_answers []) (RecordOf weeks_text by_money_then_weeks)
+  -- they pass, and that of the chain round does with all levels 7 higher too
+  pub empty_passes : Passing empty_text (total.Money (cents x.empty_record)) []
+  pub chain_passes : Passing (money_text (codes "3") chain_levels) (total.Money (cents x.chain_record)) (comes_to (negsuc 299) 0 ∷ comes_to (pos 90) 3 ∷ comes_to (pos 480) 3 ∷ [])
+  pub raised_passes : Passing (money_text (codes "3") raised_levels) (total.Money (cents x.raised_record)) (comes_to (negsuc 299) 0 ∷ comes_to (pos 90) 3 ∷ comes_to (pos 480) 3 ∷ [])
+  pub cash_passes : Passing cash_text (total.Money (cents x.cash_record)) (comes_to (negsuc 199) 0 ∷ comes_to (pos 60) 2 ∷ comes_to (pos 320) 2 ∷ [])
+  pub weeks_passes : Passing weeks_text (total.MoneyThenWeeks (both x.weeks_record)) (comes_to (negsuc 299) 0 ∷ comes_to (pos 90) 3 ∷ comes_to (pos 210) 3 ∷ [])
+  -- with -79 for -80, with 2 units on each line, and with 4, it fails
+  pub with_79_fails : Failing (money_text (codes "3") levels_with_79) x.refusal_with_79
+  pub twos_fail : Failing (money_text (codes "2") chain_levels) x.refusal_of_twos
+  pub fours_fail : Failing (money_text (codes "4") chain_levels) x.refusal_of_fours
+  -- the haul table: improve rises once, and clear by as much
+  pub roads : Hauled two_roads (numbered 0 ∷ numbered 1 ∷ []) (λ n. RisesOnce money (cents x.roads_rise) n × Clears money (cents x.roads_rise) n)
+  -- cash given at a lower price than got is refused, and else accepted
+  pub loop : Built (cash_for_cash 20 40) (numbered 0 ∷ refused x.refusal_of_loop ∷ []) (λ b. ⊤)
+  pub same_price : Built (cash_for_cash 40 40) (numbered 0 ∷ numbered x.offer_at_same_price ∷ []) (λ b. ⊤)
+  pub lower_price : Built (cash_for_cash 40 20) (numbered 0 ∷ numbered x.offer_at_lower_price ∷ []) (λ b. ⊤)

@@ -1,25 +1,29 @@
 ghost use Rattle.cases.specs.Cases.{Cases};
 
-// The worked cases come out so, whichever cycles improve takes and whichever potentials are left.
+// What the rules make of the worked cases, whichever cycles improve takes and whichever potentials are left.
 pub fn cases_stand() -> u8
     ensures { Cases (record {
-        empty_worth = 0;
-        chain_rise = 270;
-        rise_with_two = 180;
-        rise_with_none = 0;
-        rise_at_70 = 0;
-        rise_at_70_with_weeks = (0, 6);
-        rise_at_69 = 0;
-        rise_at_69_with_weeks = (0, 0);
-        record_worth = 270;
-        raised_worth = 270;
-        higher_level = 11;
-        two_units = 11;
-        four_units = 15;
-        roads_rise = 60;
-        cash_at_20_and_40 = 8;
-        cash_at_40_and_40 = 0;
-        cash_at_40_and_20 = 0;
+      empty_worth = 0;
+      empty_worth_with_weeks = (0, 0);
+      chain_rise = 270;
+      rise_with_two = 180;
+      rise_with_none = 0;
+      rise_at_70 = 0;
+      rise_at_70_with_weeks = (0, 6);
+      rise_at_69 = 0;
+      rise_at_69_with_weeks = (0, 0);
+      empty_record = 0;
+      chain_record = 270;
+      raised_record = 270;
+      cash_record = 180;
+      weeks_record = (0, 6);
+      refusal_with_79 = 11;
+      refusal_of_twos = 11;
+      refusal_of_fours = 15;
+      roads_rise = 60;
+      refusal_of_loop = 8;
+      offer_at_same_price = 0;
+      offer_at_lower_price = 0;
     }) }
 {
     0

@@ -1,25 +1,34 @@
-use Rattle.std.proofs.Common.{refl, ◌∷◌, [], pos, negsuc}
-use Rattle.cases.proofs.Calls.{built}
-use Rattle.cases.proofs.Numbers.{empty_round, chain_round, cash_held, last_price, two_roads}
-use Rattle.cases.proofs.Rounds.{loop_run, same_run, lower_run}
-use Rattle.cases.proofs.Texted.{chain_record, raised_record, higher_record, twos_record, fours_record}
+use Rattle.std.specs.Prelude.{refl}
+use Rattle.cases.specs.Calls.{stopped}
+use Rattle.cases.proofs.Calls.{built, closed, hauled}
+use Rattle.cases.proofs.Cleared.{empty_best, empty_best_with_weeks, chain_rises, cash_clears, clears_at_70, clears_at_69, roads_rise}
+use Rattle.cases.proofs.Rounds.{chain_run, cash_run, loop_run, same_run, lower_run, road_run}
+use Rattle.cases.proofs.Texts.{empty_is, empty_passes, chain_is, chain_passes, raised_passes, changed_fails, twos_fail, fours_fail, cash_is, cash_passes, weeks_is, weeks_pass}
 use Rattle.cases.proofs.worked.cases_stand.Goals as goal
 
 pub returns : goal.returns
 returns c = record {
-  empty_round = empty_round 0 refl;
-  chain_round = chain_round 270 refl refl refl;
-  two_held = cash_held 2 180 refl refl refl;
-  none_held = cash_held 0 0 refl refl refl;
-  price_70 = last_price 70 0 (0, 6) 0 3 (pos 0 ∷ pos 100 ∷ pos 70 ∷ pos 100 ∷ pos 70 ∷ pos 0 ∷ pos 0 ∷ negsuc 79 ∷ negsuc 79 ∷ pos 0 ∷ pos 0 ∷ []) ((pos 0, pos 0) ∷ (pos 100, pos 0) ∷ (pos 70, pos 1) ∷ (pos 100, pos 0) ∷ (pos 70, pos 1) ∷ (pos 0, pos 0) ∷ (pos 0, pos 0) ∷ (negsuc 79, pos 1) ∷ (negsuc 79, negsuc 0) ∷ (pos 0, pos 0) ∷ (pos 0, pos 0) ∷ []) refl refl refl refl refl;
-  price_69 = last_price 69 0 (0, 0) 0 0 (pos 0 ∷ pos 99 ∷ pos 69 ∷ pos 99 ∷ pos 69 ∷ negsuc 0 ∷ negsuc 0 ∷ negsuc 80 ∷ negsuc 80 ∷ pos 0 ∷ pos 0 ∷ []) ((pos 0, pos 0) ∷ (pos 99, pos 2) ∷ (pos 69, pos 1) ∷ (pos 99, pos 2) ∷ (pos 69, pos 1) ∷ (negsuc 0, pos 2) ∷ (negsuc 0, pos 2) ∷ (negsuc 80, pos 1) ∷ (negsuc 80, pos 1) ∷ (pos 0, pos 0) ∷ (pos 0, pos 0) ∷ []) refl refl refl refl refl;
-  chain_record = chain_record 270 refl;
-  raised_record = raised_record 270 refl;
-  higher_record = higher_record;
-  twos_record = twos_record;
-  fours_record = fours_record;
-  roads = two_roads 60 refl refl refl;
-  loop = built loop_run;
-  same_price = built same_run;
-  lower_price = built lower_run;
+  empty_round = closed stopped _ (empty_best, refl);
+  empty_round_with_weeks = closed stopped _ (empty_best_with_weeks, refl);
+  chain_round = closed (chain_run 160 refl) _ (chain_rises _ refl refl refl);
+  two_held = closed (cash_run 2 refl) _ (cash_clears 2 _ refl refl refl);
+  none_held = closed (cash_run 0 refl) _ (cash_clears 0 _ refl refl refl);
+  at_70 = closed (chain_run 70 refl) _ (clears_at_70 _ _ refl refl);
+  at_69 = closed (chain_run 69 refl) _ (clears_at_69 _ _ refl refl);
+  is_empty_record = built stopped _ empty_is;
+  is_chain_record = built (chain_run 160 refl) _ chain_is;
+  is_cash_record = built (cash_run 2 refl) _ cash_is;
+  is_weeks_record = built (chain_run 70 refl) _ weeks_is;
+  empty_passes = empty_passes _ refl;
+  chain_passes = chain_passes _ _ refl refl;
+  raised_passes = raised_passes _ _ refl refl;
+  cash_passes = cash_passes _ _ refl refl;
+  weeks_passes = weeks_pass _ _ refl refl;
+  with_79_fails = changed_fails _ refl;
+  twos_fail = twos_fail _ refl;
+  fours_fail = fours_fail _ refl;
+  roads = hauled road_run _ (roads_rise _ refl refl refl);
+  loop = built loop_run _ tt;
+  same_price = built same_run _ tt;
+  lower_price = built lower_run _ tt;
 }

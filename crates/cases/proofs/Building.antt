@@ -20,11 +20,11 @@ use Rattle.haul_table.specs.Roads.{with_arc, road_rows, Roaded}
 use Rattle.cases.specs.Calls.{numbered, done, refused, item, member, hold, offer, Calls, Roads}
 
 -- no row holds
-abbrev NoneOf : List Row → Type 0
+abbrev pub NoneOf : List Row → Type 0
 NoneOf [] = Unit {0}
 NoneOf (when n P ∷ rows) = (P → ⊥) × NoneOf rows
 
-first_none : (rows : List Row) → NoneOf rows → First rows None
+pub first_none : (rows : List Row) → NoneOf rows → First rows None
 first_none [] h = refl
 first_none (when n P ∷ rows) h = (λ p. absurd (h.0 p), λ _. first_none rows h.1)
 
@@ -38,7 +38,7 @@ not_over a b h l = let k = leb-true b a h in omega arith
 neither : {P Q : Type 0} → (P → ⊥) → (Q → ⊥) → P ⊎ Q → ⊥
 neither f g h = ⊎_elim f g h
 
-no_any : {X : Type 0} (P : X → Type 0) (xs : List X) → AllByRecursion (λ x. P x → ⊥) xs → Any P xs → ⊥
+pub no_any : {X : Type 0} (P : X → Type 0) (xs : List X) → AllByRecursion (λ x. P x → ⊥) xs → Any P xs → ⊥
 no_any P [] h (k, l, f) = omega arith
 no_any P (x ∷ xs) h (zero, l, f) = h.0 (f x)
 no_any P (x ∷ xs) h (suc k, l, f) = no_any P xs h.1 (k, (let m : suc k < suc (length xs) = l in omega arith), f)

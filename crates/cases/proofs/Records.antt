@@ -27,7 +27,7 @@ use Rattle.record.specs.Evidence.{LevelsFit, network_of, Passes}
 use Rattle.record.specs.declared.passed.Passed.{Passed}
 use Rattle.record.specs.declared.passed.OfferResult.{OfferResult}
 use Rattle.record.specs.declared.passed.Total.{Total}
-use Rattle.cases.specs.Texts.{RecordOf, Passing, Failing}
+use Rattle.cases.specs.Texts.{RecordOf, Passing, PassingAt, Failing}
 use Rattle.cases.proofs.Tests.{all_below, below, balanced, circulates, inside, within, left_fits, flow_fits, fits}
 
 -- the number that check refuses with, or none, and line 0
@@ -76,6 +76,14 @@ passing text x worth offers reads allowed fit w os = record { some = (Ok p, (x, 
     every (Ok p) h = let a = answered_once text x reads p h in (a.0 ∙ w, a.1 ∙ os)
     every (Err d) h = none≢some (number d.refusal) (sym (one_answer text x reads None ((λ f. absurd (f allowed)), λ _. ((λ f. absurd (f fit)), λ _. refl)) (Err d) h))
 
+-- whatever the offers come to
+pub at_worth : {text : List ℕ} {worth : Total} {offers : List OfferResult} → Passing text worth offers → PassingAt text worth
+at_worth {text} {worth} {offers} h = record { some = h.some; every = λ r c. less r (h.every r c) }
+  where
+    less : (r : Result Passed Fault) → MatchResult r (λ p. (p.worth ≡ worth) × (p.offers ≡ offers)) (λ _. ⊥) → MatchResult r (λ p. p.worth ≡ worth) (λ _. ⊥)
+    less (Ok p) h = h.0
+    less (Err d) h = h
+
 -- contents that fail
 pub failing_with : (text : List ℕ) (x : Contents) (e : Refusal) (n : ℕ) → Reads text x → First (failing x) (Some (number e)) → number e ≡ n → Failing text n
 failing_with text x e n reads f is = record { some = (Err (record { refusal = e; line = 0 }), inr (record { contents = x; reads = reads; first = f; line = refl })); every = every }
@@ -92,7 +100,7 @@ fair_side : (units : ℕ) → units ≤ 1000 → (ls : List Line) → AllWith (�
 fair_side units h [] = tt
 fair_side units h (l ∷ ls) = (h, fair_side units h ls)
 
-fair_all : (units : ℕ) → units ≤ 1000 → (os : List Offer) → FairAllotment os (all units)
+pub fair_all : (units : ℕ) → units ≤ 1000 → (os : List Offer) → FairAllotment os (all units)
 fair_all units h [] = tt
 fair_all units h (o ∷ os) = ((fair_side units h o.give, fair_side units h o.get), fair_all units h os)
 
@@ -100,7 +108,7 @@ abbrev are_fair : Kind → List (List ℤ) → Bool
 are_fair k [] = true
 are_fair k (z ∷ zs) = eqb (length z) (parts k) && (leb (level_size z) 1000000 && are_fair k zs)
 
-fair_levels : (k : Kind) (zs : List (List ℤ)) → are_fair k zs ≡ true → AllByRecursion (FairLevel k) zs
+pub fair_levels : (k : Kind) (zs : List (List ℤ)) → are_fair k zs ≡ true → AllByRecursion (FairLevel k) zs
 fair_levels k [] h = tt
 fair_levels k (z ∷ zs) h =
     let p = and_parts (eqb (length z) (parts k)) (leb (level_size z) 1000000 && are_fair k zs) h in

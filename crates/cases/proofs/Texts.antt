@@ -1,5 +1,5 @@
 -- The records of the worked cases.
-use Rattle.std.proofs.Common.{◌≡◌, ℕ, ◌≤◌, List, [], ◌∷◌, ◌++◌, map, ℤ, pos, negsuc, codes, refl, true≢false, arith}
+use Rattle.std.proofs.Common.{◌≡◌, ℕ, Some, None, Ok, Err, Result, MatchResult, length, take, drop, ap, ◌∙◌, subst, inl, inr, ◌<◌, ◌≤◌, List, [], ◌∷◌, ◌++◌, map, ℤ, pos, negsuc, codes, refl, sym, subst₂, true≢false, arith}
 use Rattle.std.proofs.lemmas.Bool.{ltb-true}
 use Rattle.tables.specs.Refusals.{number}
 use Rattle.tables.specs.declared.refusal.Refusal.TheVariants.{Unfit, Rule}
@@ -11,7 +11,7 @@ use Rattle.book.specs.Books.{Book, Sound}
 use Rattle.layout.specs.Records.{by_money, by_money_then_weeks, Contents, allotted, contents_of}
 use Rattle.layout.specs.Runs.{Reads}
 use Rattle.record.specs.Checks.{total_by, result_of}
-use Rattle.record.specs.Evidence.{amount, amount_and_weeks, network_of, LevelsFit}
+use Rattle.record.specs.Evidence.{BestBy, amount, amount_and_weeks, network_of, LevelsFit}
 use Rattle.record.specs.declared.passed.Total.{Total}
 use Rattle.record.specs.declared.passed.OfferResult.{OfferResult}
 use Rattle.book.specs.Rows.{map_with}
@@ -20,7 +20,34 @@ use Rattle.cases.specs.Calls.{stopped}
 use Rattle.cases.specs.Texts.{RecordOf, Passing, Failing}
 use Rattle.cases.specs.Chain.{money_text, chain_levels, raised_levels, levels_with_79, cash_text, weeks_text}
 use Rattle.cases.specs.Cases.{empty_text}
-use Rattle.cases.proofs.Records.{record_of, passing, failing_with, all, reading, allowed_by, fitted}
+use Rattle.std.proofs.lemmas.Option.{none-some}
+use Rattle.std.proofs.Math.Seq.{take-append_seam}
+use Rattle.std.proofs.ByRecursion.{All-weaker}
+use Rattle.worth.specs.Integers.{money_laws}
+use Rattle.network.specs.Networks.{value}
+use Rattle.book.specs.Arcs.{filled}
+use Rattle.layout.specs.Render.{render}
+use Rattle.record.specs.declared.passed.Total.TheVariants.{Money}
+use Rattle.std.proofs.lemmas.Bool.{leb-true}
+use Rattle.std.specs.List.{AllByRecursion}
+use Rattle.tables.specs.Refusals.{Row, when, First}
+use Rattle.tables.specs.declared.refusal.Refusal.{Refusal}
+use Rattle.text.specs.declared.fault.Fault.{Fault}
+use Rattle.book.specs.Books.{Any}
+use Rattle.layout.specs.Records.{level_size, FairLevel, book_of}
+use Rattle.layout.proofs.Lines.{answer_once}
+use Rattle.layout.proofs.Once.{one_outcome}
+use Rattle.layout.proofs.Recorded.{all_recorded}
+use Rattle.layout.proofs.Renders.{reads_records}
+use Rattle.record.specs.Evidence.{Passes}
+use Rattle.record.specs.Files.{Files}
+use Rattle.record.specs.Sheets.{Sheet, Clears, FiledBest, Clearing}
+use Rattle.record.proofs.Passing.{evidence}
+use Rattle.cases.specs.Texts.{Filing, ClearingSheet, PassingAt}
+use Rattle.cases.specs.Chain.{filed_levels, threes, chain_sheet}
+use Rattle.cases.proofs.Building.{first_none, no_any}
+use Rattle.cases.proofs.Records.{fair_all, fair_levels}
+use Rattle.cases.proofs.Records.{record_of, passing, at_worth, failing_with, all, reading, allowed_by, fitted}
 use Rattle.cases.proofs.Rounds.{sound, held, two, chain_book, chain_run, cash_run}
 
 -- levels by money
@@ -66,6 +93,71 @@ chain_is = record_of (money_text (codes "3") chain_levels) (chain 3 fitting) cha
 
 pub chain_passes : (worth : Total) (offers : List OfferResult) → total_by by_money (network_of (chain 3 fitting)) ≡ worth → map_with result_of book.offers (allotted (chain 3 fitting)) ≡ offers → Passing (money_text (codes "3") chain_levels) worth offers
 chain_passes worth offers is are = passing (money_text (codes "3") chain_levels) (chain 3 fitting) worth offers chain_reads (threes_allowed fitting) (fitted money (network_of (chain 3 fitting)) (map amount (levels fitting)) refl refl refl) is are
+
+-- filed
+
+abbrev page_rows : List ℕ → List Row
+page_rows page = when 3 (Any (λ z. 1000000 < level_size z) filed_levels) ∷ when 10 (11 < 11) ∷ when 12 (length page < 198) ∷ []
+
+no_row : (page : List ℕ) → 198 ≤ length page → First (page_rows page) None
+no_row page h = first_none (page_rows page) (no_any (λ z. 1000000 < level_size z) filed_levels small, ((λ l. omega arith), ((λ l. omega arith), tt)))
+  where
+    small : AllByRecursion (λ z. 1000000 < level_size z → ⊥) filed_levels
+    small = All-weaker (FairLevel by_money) (λ z. 1000000 < level_size z → ⊥) (λ z f l. omega (arith, f.1, l)) filed_levels (fair_levels by_money filed_levels refl)
+
+pub chain_filed : (n : ℕ) → length (money_text (codes "3") chain_levels) ≡ n → Filing (money_text (codes "3") chain_levels) by_money book threes filed_levels n
+chain_filed n is = record {
+  some = λ page h. (money_text (codes "3") chain_levels ++ drop 198 page, Ok 198, record { refused = no_row page h; outcome = record { length = refl; page = refl; reads = chain_reads; book = refl; allotment = (all_recorded by_money book threes filed_levels).allotment } });
+  every = every;
+}
+  where
+    every : (page after : List ℕ) (r : Result ℕ Refusal) → 198 ≤ length page → Files by_money book threes filed_levels page after r → (r ≡ Ok n) × (after ≡ money_text (codes "3") chain_levels ++ drop n page)
+    every page after (Ok m) h f = let e : m ≡ n = f.outcome.length ∙ is in (ap Ok e, f.outcome.page ∙ ap (λ k. money_text (codes "3") chain_levels ++ drop k page) e)
+    every page after (Err e) h f = absurd (none-some (number e) (answer_once (page_rows page) None (Some (number e)) (no_row page h) f.refused))
+
+-- its sheet cleared
+
+abbrev sheet : Contents
+sheet = contents_of by_money book (all 0) []
+
+sheet_reads : Reads chain_sheet sheet
+sheet_reads =
+    let v = (all_recorded by_money book (all 0) filed_levels).valid book_sound (fair_all 0 (leb-true 0 1000 refl) book.offers) (fair_levels by_money filed_levels refl) refl in
+    (reads_records chain_sheet sheet).1 (refl, record { sound = v.sound; units = v.units; levels = tt; levelled = inl refl })
+
+is_sheet : Sheet sheet
+is_sheet = record { unlevelled = refl; unfilled = (((refl, tt), (refl, tt)), (((refl, tt), (refl, tt)), (((refl, tt), (refl, tt)), tt))); standing = (ltb-true 0 5 refl, (ltb-true 0 3 refl, (ltb-true 0 10 refl, tt))) }
+
+chain_passing : Passes (money_text (codes "3") chain_levels) (chain 3 fitting)
+chain_passing = record { reads = chain_reads; allowed = threes_allowed fitting; fits = fitted money (network_of (chain 3 fitting)) (map amount (levels fitting)) refl refl refl }
+
+-- each record of the round that passes is worth as much
+worth_once : (y : Contents) → Clears by_money book y → (worth : Total) → total_by by_money (network_of (chain 3 fitting)) ≡ worth → total_by y.kind (network_of y) ≡ worth
+worth_once y c worth is =
+    let own = evidence.0 (render y) y c.passes in
+    let allowed : Allowed book (allotted y) = subst (λ b. Allowed b (allotted y)) c.book own.0 in
+    let best : BestBy by_money book (allotted y) = subst₂ (λ k b. BestBy k b (allotted y)) c.kind c.book own.1 in
+    let known = evidence.0 (money_text (codes "3") chain_levels) (chain 3 fitting) chain_passing in
+    let same : value money (filled book (allotted y)) ≡ value money (network_of (chain 3 fitting)) = money_laws.connected _ _ (best (allotted (chain 3 fitting)) known.0) (known.1 (allotted y) allowed) in
+    let of_kind : total_by y.kind (network_of y) ≡ total_by by_money (filled book (allotted y)) = λ i. total_by (c.kind i) (filled (c.book i) (allotted y)) in
+    of_kind ∙ ap Money same ∙ is
+
+pub sheet_cleared : (worth : Total) → total_by by_money (network_of (chain 3 fitting)) ≡ worth → ClearingSheet chain_sheet worth
+sheet_cleared worth is = record { some = some; every = every }
+  where
+    some : (page : List ℕ) → 32768 ≤ length page → (after : List ℕ) × (r : Result ℕ Fault) × Clearing chain_sheet page after r
+    some page h = (money_text (codes "3") chain_levels ++ drop 198 page, Ok 198, record { sheet = sheet; reads = sheet_reads; is = is_sheet; filed = record { contents = chain 3 fitting; clears = record { passes = chain_passing; kind = refl; book = refl }; length = refl; page = refl } })
+
+    every : (page after : List ℕ) (r : Result ℕ Fault) → 32768 ≤ length page → Clearing chain_sheet page after r → MatchResult r (λ n. PassingAt (take n after) worth) (λ _. ⊥)
+    every page after (Ok n) h c =
+        let filed : FiledBest by_money book page after n = subst (λ x. FiledBest x.kind (book_of x) page after n) (one_outcome.one_reading chain_sheet c.sheet sheet c.reads sheet_reads) c.filed in
+        let y = filed.contents in
+        let p = filed.clears.passes in
+        let text : take n after ≡ render y = (λ i. take (filed.length i) (filed.page i)) ∙ take-append_seam (render y) (drop n page) in
+        subst (λ t. PassingAt t worth) (sym text) (at_worth (passing (render y) y worth (map_with result_of (book_of y).offers (allotted y)) p.reads p.allowed p.fits (worth_once y filed.clears worth is) refl))
+    every page after (Err f) h (e, inl d) = one_outcome.not_both chain_sheet sheet (number f.refusal) f.line sheet_reads d
+    every page after (Err f) h (e, inr (inl d)) = d.not (subst Sheet (one_outcome.one_reading chain_sheet sheet d.contents sheet_reads d.reads) is_sheet)
+    every page after (Err f) h (e, inr (inr d)) = omega (arith, d.short.short, d.short.clears.passes.reads.0)
 
 -- with all levels 7 higher
 

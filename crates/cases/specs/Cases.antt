@@ -15,8 +15,8 @@ use Rattle.record.specs.declared.passed.OfferResult.{OfferResult}
 use Rattle.record.specs.declared.passed.Total.TheVariants as total
 use Rattle.cases.specs.Calls.{numbered, done, refused, Call, member, hold, offer, Built, Closed, Hauled}
 use Rattle.cases.specs.Clearing.{Best, RisesOnce, Clears}
-use Rattle.cases.specs.Texts.{RecordOf, Passing, Failing}
-use Rattle.cases.specs.Chain.{line, chain, chain_answers, money_text, chain_levels, raised_levels, levels_with_79, cash_text, weeks_text}
+use Rattle.cases.specs.Texts.{RecordOf, Passing, Failing, Filing, ClearingSheet}
+use Rattle.cases.specs.Chain.{line, chain, chain_answers, money_text, chain_levels, filed_levels, threes, raised_levels, levels_with_79, chain_sheet, cash_text, weeks_text}
 
 -- so many cents
 abbrev pub cents : ℕ → Money
@@ -42,7 +42,7 @@ two_roads = fresh 0 1 4 (negsuc 29) 0 ∷ fresh 1 0 3 (pos 50) 0 ∷ []
 abbrev pub cash_for_cash : ℕ → ℕ → List Call
 cash_for_cash given got = member (codes "north") ∷ offer 0 5 (line 0 5 given ∷ []) (line 0 5 got ∷ []) ∷ []
 
--- the numbers that come out: worths and rises in cents, or in cents and weeks, and the numbers of refusals and of offers
+-- the numbers that come out: worths and rises in cents, or in cents and weeks, a length in bytes, and the numbers of refusals and of offers
 pub record Numbers : Type 0 where
   pub empty_worth : ℕ
   pub empty_worth_with_weeks : ℕ × ℕ
@@ -53,6 +53,8 @@ pub record Numbers : Type 0 where
   pub rise_at_70_with_weeks : ℕ × ℕ
   pub rise_at_69 : ℕ
   pub rise_at_69_with_weeks : ℕ × ℕ
+  pub record_length : ℕ
+  pub sheet_worth : ℕ
   pub empty_record : ℕ
   pub chain_record : ℕ
   pub raised_record : ℕ
@@ -84,6 +86,9 @@ pub record Cases (x : Numbers) : Type 0 where
   pub is_chain_record : Built (chain [] 160) (chain_answers []) (RecordOf (money_text (codes "3") chain_levels) by_money)
   pub is_cash_record : Built (chain (hold 2 0 2 ∷ []) 160) (chain_answers (done ∷ [])) (RecordOf cash_text by_money)
   pub is_weeks_record : Built (chain [] 70) (chain_answers []) (RecordOf weeks_text by_money_then_weeks)
+  -- file writes that of the chain round, and clear_sheet fills in its sheet
+  pub chain_filed : Built (chain [] 160) (chain_answers []) (λ b. Filing (money_text (codes "3") chain_levels) by_money b threes filed_levels x.record_length)
+  pub sheet_cleared : ClearingSheet chain_sheet (total.Money (cents x.sheet_worth))
   -- they pass, and that of the chain round does with all levels 7 higher too
   pub empty_passes : Passing empty_text (total.Money (cents x.empty_record)) []
   pub chain_passes : Passing (money_text (codes "3") chain_levels) (total.Money (cents x.chain_record)) (comes_to (negsuc 299) 0 ∷ comes_to (pos 90) 3 ∷ comes_to (pos 480) 3 ∷ [])

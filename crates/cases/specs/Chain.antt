@@ -1,5 +1,6 @@
 -- The chain round: the calls that build it, and the texts of its records.
-use Rattle.std.specs.Prelude.{ℕ, List, [], ◌∷◌, ◌++◌, map, codes}
+use Rattle.std.specs.Prelude.{ℕ, List, [], ◌∷◌, ◌++◌, map, ℤ, pos, negsuc, codes}
+use Rattle.book.specs.Allotments.{Allotment}
 use Rattle.book.specs.declared.line.Line.{Line}
 use Rattle.layout.specs.Render.{ended}
 use Rattle.cases.specs.Calls.{Answer, numbered, done, Call, item, member, hold, offer}
@@ -46,6 +47,10 @@ money_text units levels = chain_text (map codes ("K 1" ∷ "money" ∷ [])) (map
 abbrev pub chain_levels : List (List ℕ)
 chain_levels = map codes ("L 11" ∷ "0" ∷ "100" ∷ "160" ∷ "100" ∷ "160" ∷ "0" ∷ "0" ∷ "10" ∷ "-80" ∷ "0" ∷ "0" ∷ [])
 
+-- the same as integers, for file
+abbrev pub filed_levels : List (List ℤ)
+filed_levels = map (λ z. z ∷ []) (pos 0 ∷ pos 100 ∷ pos 160 ∷ pos 100 ∷ pos 160 ∷ pos 0 ∷ pos 0 ∷ pos 10 ∷ negsuc 79 ∷ pos 0 ∷ pos 0 ∷ [])
+
 -- all of them 7 higher
 abbrev pub raised_levels : List (List ℕ)
 raised_levels = map codes ("L 11" ∷ "7" ∷ "107" ∷ "167" ∷ "107" ∷ "167" ∷ "7" ∷ "7" ∷ "17" ∷ "-73" ∷ "7" ∷ "7" ∷ [])
@@ -53,6 +58,14 @@ raised_levels = map codes ("L 11" ∷ "7" ∷ "107" ∷ "167" ∷ "107" ∷ "167
 -- with -79 in the place of -80
 abbrev pub levels_with_79 : List (List ℕ)
 levels_with_79 = map codes ("L 11" ∷ "0" ∷ "100" ∷ "160" ∷ "100" ∷ "160" ∷ "0" ∷ "0" ∷ "10" ∷ "-79" ∷ "0" ∷ "0" ∷ [])
+
+-- 3 units on each line
+abbrev pub threes : Allotment
+threes k = record { give = λ t. 3; get = λ t. 3 }
+
+-- the sheet: no units, and no levels
+abbrev pub chain_sheet : List ℕ
+chain_sheet = money_text (codes "0") (codes "L 0" ∷ [])
 
 -- by money, with 2 units of cash held by member 2 too, and 2 units on each line
 abbrev pub cash_text : List ℕ

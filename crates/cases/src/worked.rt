@@ -12,6 +12,8 @@ pub fn cases_stand() -> u8
       rise_at_70_with_weeks = (0, 6);
       rise_at_69 = 0;
       rise_at_69_with_weeks = (0, 0);
+      record_length = 198;
+      sheet_worth = 270;
       empty_record = 0;
       chain_record = 270;
       raised_record = 270;

@@ -3,7 +3,7 @@ use Rattle.cases.specs.Calls.{stopped}
 use Rattle.cases.proofs.Calls.{built, closed, hauled}
 use Rattle.cases.proofs.Cleared.{empty_best, empty_best_with_weeks, chain_rises, cash_clears, clears_at_70, clears_at_69, roads_rise}
 use Rattle.cases.proofs.Rounds.{chain_run, cash_run, loop_run, same_run, lower_run, road_run}
-use Rattle.cases.proofs.Texts.{empty_is, empty_passes, chain_is, chain_passes, raised_passes, changed_fails, twos_fail, fours_fail, cash_is, cash_passes, weeks_is, weeks_pass}
+use Rattle.cases.proofs.Texts.{empty_is, empty_passes, chain_is, chain_passes, chain_filed, sheet_cleared, raised_passes, changed_fails, twos_fail, fours_fail, cash_is, cash_passes, weeks_is, weeks_pass}
 use Rattle.cases.proofs.worked.cases_stand.Goals as goal
 
 pub returns : goal.returns
@@ -19,6 +19,8 @@ returns c = record {
   is_chain_record = built (chain_run 160 refl) _ chain_is;
   is_cash_record = built (cash_run 2 refl) _ cash_is;
   is_weeks_record = built (chain_run 70 refl) _ weeks_is;
+  chain_filed = built (chain_run 160 refl) _ (chain_filed _ refl);
+  sheet_cleared = sheet_cleared _ refl;
   empty_passes = empty_passes _ refl;
   chain_passes = chain_passes _ _ refl refl;
   raised_passes = raised_passes _ _ refl refl;

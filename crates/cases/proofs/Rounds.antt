@@ -76,15 +76,15 @@ chain_book hs last = record {
 
 offered : (hs : List Holding) (last : ℕ) → leb last 1000000 ≡ true → Run Calls (unoffered hs) (offer 0 5 (line 1 5 100 ∷ []) (line 0 5 0 ∷ []) ∷ offer 1 3 (line 2 4 150 ∷ []) (line 1 4 180 ∷ []) ∷ offer 2 10 (line 0 10 0 ∷ []) (line 2 10 last ∷ []) ∷ []) (numbered 0 ∷ numbered 1 ∷ numbered 2 ∷ []) (chain_book hs last)
 offered hs last h =
-    went (takes_offer _ 0 5 (line 1 5 100) (line 0 5 0) refl refl) (
-    went (takes_offer _ 1 3 (line 2 4 150) (line 1 4 180) refl refl) (
-    went (takes_offer _ 2 10 (line 0 10 0) (line 2 10 last) h refl) stopped))
+    went (takes_offer _ 0 5 (line 1 5 100 ∷ []) (line 0 5 0 ∷ []) refl refl) (
+    went (takes_offer _ 1 3 (line 2 4 150 ∷ []) (line 1 4 180 ∷ []) refl refl) (
+    went (takes_offer _ 2 10 (line 0 10 0 ∷ []) (line 2 10 last ∷ []) (rw h refl) refl) stopped))
 
 pub chain_run : (last : ℕ) → leb last 1000000 ≡ true → Run Calls fresh (chain [] last) (chain_answers []) (chain_book two last)
 chain_run last h = run_on started (offered two last h)
 
 pub cash_run : (units : ℕ) → leb units 1000 ≡ true → Run Calls fresh (chain (hold 2 0 units ∷ []) 160) (chain_answers (done ∷ [])) (chain_book (two ++ held 2 0 units ∷ []) 160)
-cash_run units h = run_on started (went (takes_holding (unoffered two) 2 0 units h) (offered (two ++ held 2 0 units ∷ []) 160 refl))
+cash_run units h = run_on started (went (takes_holding (unoffered two) 2 0 units (rw h refl)) (offered (two ++ held 2 0 units ∷ []) 160 refl))
 
 -- cash on both sides
 
@@ -98,10 +98,10 @@ abbrev cash_offered : ℕ → ℕ → Book
 cash_offered given got = record { items = codes "cash" ∷ []; members = codes "north" ∷ []; holdings = []; offers = made 0 5 (line 0 5 given ∷ []) (line 0 5 got ∷ []) ∷ [] }
 
 pub same_run : Run Calls fresh (cash_for_cash 40 40) (numbered 0 ∷ numbered 0 ∷ []) (cash_offered 40 40)
-same_run = went (takes_member _ (codes "north") refl) (went (takes_offer north 0 5 (line 0 5 40) (line 0 5 40) refl refl) stopped)
+same_run = went (takes_member _ (codes "north") refl) (went (takes_offer north 0 5 (line 0 5 40 ∷ []) (line 0 5 40 ∷ []) refl refl) stopped)
 
 pub lower_run : Run Calls fresh (cash_for_cash 40 20) (numbered 0 ∷ numbered 0 ∷ []) (cash_offered 40 20)
-lower_run = went (takes_member _ (codes "north") refl) (went (takes_offer north 0 5 (line 0 5 40) (line 0 5 20) refl refl) stopped)
+lower_run = went (takes_member _ (codes "north") refl) (went (takes_offer north 0 5 (line 0 5 40 ∷ []) (line 0 5 20 ∷ []) refl refl) stopped)
 
 -- the two roads
 

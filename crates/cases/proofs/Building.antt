@@ -1,6 +1,6 @@
 -- Single calls that are accepted, and the one that is refused, by tests that compute.
-use Rattle.std.proofs.Common.{◌≡◌, ℕ, zero, suc, ◌+◌, ◌<◌, ◌≤◌, Bool, true, false, not, ◌&&◌, ◌||◌, eqb, ltb, leb, T, List, [], ◌∷◌, ◌++◌, map, length, ℤ, pos, negsuc, int_lt, ◌<ℤ◌, Ok, Err, Some, None, Option, ◌⊎◌, sym, refl, ap, ◌∙◌, subst, inl, inr, ⊎_elim, arith}
-use Rattle.std.proofs.lemmas.Bool.{both_ways, and_parts, and_from, or_parts, not-true, ltb-true, leb-true, eqb-true, eqb-false, eq-eqb, lt-ltb}
+use Rattle.std.proofs.Common.{◌≡◌, ℕ, zero, suc, ◌+◌, ◌<◌, ◌≤◌, Bool, true, false, not, ◌&&◌, eqb, ltb, leb, T, List, [], ◌∷◌, ◌++◌, map, length, ℤ, pos, negsuc, int_lt, ◌<ℤ◌, Ok, Err, Some, None, Option, ◌⊎◌, refl, subst, ⊎_elim, arith}
+use Rattle.std.proofs.lemmas.Bool.{both_ways, and_parts, and_from, not-true, ltb-true, leb-true, eqb-true, eqb-false, eq-eqb, lt-ltb}
 use Rattle.std.proofs.ByRecursion.{All-weaker}
 use Rattle.std.specs.List.{AllByRecursion}
 use Rattle.tables.specs.Refusals.{Row, when, First, number}
@@ -18,7 +18,7 @@ use Rattle.round.specs.Naming.{naming}
 use Rattle.round.specs.Holdings.{placed, Strange, Crowded}
 use Rattle.round.specs.Offering.{made, offering}
 use Rattle.haul_table.specs.Roads.{with_arc, road_rows, Roaded}
-use Rattle.cases.specs.Calls.{numbered, done, refused, Call, item, member, hold, offer, Calls, Roads}
+use Rattle.cases.specs.Calls.{numbered, done, refused, item, member, hold, offer, Calls, Roads}
 
 -- tests, all of them
 abbrev pub all_true : List Bool → Bool
@@ -157,13 +157,23 @@ above_loop b m limit give get h r last =
     let few = t.1 in
     let sides = few.1.1.1 in
     let rest = sides.1.1 in
-    let has = none_has (length b.items) give get sides.0 sides.1.0 in
-    (λ p. absurd (neither (not_below (length b.members) m t.0) (has (λ l. length b.items ≤ l.item) (λ l f. not_below (length b.items) l.item f.0)) p), λ _.
-    (λ p. absurd (neither (not_below 64 (length b.offers) few.0) (not_over 256 (line_count b.offers + (length give + length get)) few.1.0) p), λ _.
-    (λ p. absurd (neither (limit_in limit few.1.1.0) (has (λ l. Out l.limit) (λ l f. limit_in l.limit f.1.0)) p), λ _.
-    (λ p. absurd (has (λ l. 1000000 < l.price) (λ l f. not_over 1000000 l.price f.1.1.0) p), λ _.
-    (λ p. absurd (neither (not_twice (map item_of give) rest.0) (not_twice (map item_of get) rest.1.0) p), λ _.
-    (λ p. absurd (neither (λ e. let k = leb-true 1 (length give) rest.1.1.0 in omega arith) (λ e. let k = leb-true 1 (length get) rest.1.1.1.0 in omega arith) p), λ _. last))))))
+    let has = none_has (length b.items) give get sides.0 sides.1.0 in (
+      λ p. absurd (neither (not_below (length b.members) m t.0) (has (λ l. length b.items ≤ l.item) (λ l f. not_below (length b.items) l.item f.0)) p),
+      λ _. (
+        λ p. absurd (neither (not_below 64 (length b.offers) few.0) (not_over 256 (line_count b.offers + (length give + length get)) few.1.0) p),
+        λ _. (
+          λ p. absurd (neither (limit_in limit few.1.1.0) (has (λ l. Out l.limit) (λ l f. limit_in l.limit f.1.0)) p),
+          λ _. (
+            λ p. absurd (has (λ l. 1000000 < l.price) (λ l f. not_over 1000000 l.price f.1.1.0) p),
+            λ _. (
+              λ p. absurd (neither (not_twice (map item_of give) rest.0) (not_twice (map item_of get) rest.1.0) p),
+              λ _.
+                  (λ p. absurd (neither (λ e. let k = leb-true 1 (length give) rest.1.1.0 in omega arith) (λ e. let k = leb-true 1 (length get) rest.1.1.1.0 in omega arith) p), λ _. last),
+            ),
+          ),
+        ),
+      ),
+    )
 
 abbrev loops : Line → Line → Bool
 loops g w = eqb g.item 0 && (eqb w.item 0 && ltb g.price w.price)

@@ -13,6 +13,7 @@ use Rattle.worth.specs.declared.lexicographic.Lexicographic.{Lexicographic}
 use Rattle.flow.specs.Graphs.{worth}
 use Rattle.network.specs.Networks.{Net, graph}
 use Rattle.search.specs.Uses.{Use}
+use Rattle.book.specs.declared.holding.Holding.{Holding}
 use Rattle.book.specs.Arcs.{net_of}
 use Rattle.round.specs.Rounds.{fresh}
 use Rattle.cases.specs.Calls.{stopped}
@@ -22,7 +23,7 @@ use Rattle.cases.proofs.Some.{standing, graph_sound}
 use Rattle.cases.proofs.Every.{Finish, is_unbeaten, best_every, clears, rises_once}
 use Rattle.cases.proofs.Tests.{finish_test, balanced, inside, left_fits, flow_fits, all_below, circulates, within, fits}
 use Rattle.cases.proofs.Cycles.{all_bring, rises_by}
-use Rattle.cases.proofs.Rounds.{begins, held, two, chain_book, chain_run, cash_run, road_net, roads_begin}
+use Rattle.cases.proofs.Rounds.{begins, held, two, chain_book, chain_run, cash_run, resale_book, resale_run, quay_run, market_book, market_run, road_net, roads_begin}
 
 -- flows and potentials that a test finds to fit
 module _ {W : Type 0} {o : Ops W} (laws : Laws o) {n : Net} (used : Use o n o.none) (y : ℕ → ℕ) (at : ℕ → W) (w : W) where
@@ -103,6 +104,46 @@ pub clears_at_69 : (w : ℕ) (x : ℕ × ℕ) → worth money (graph money (last
 clears_at_69 w x is is' = (
   last_clears 69 w (pos 0 ∷ pos 99 ∷ pos 69 ∷ pos 99 ∷ pos 69 ∷ negsuc 0 ∷ negsuc 0 ∷ negsuc 80 ∷ negsuc 80 ∷ pos 0 ∷ pos 0 ∷ []) refl refl is,
   last_clears_with_weeks 69 0 x ((pos 0, pos 0) ∷ (pos 99, pos 2) ∷ (pos 69, pos 1) ∷ (pos 99, pos 2) ∷ (pos 69, pos 1) ∷ (negsuc 0, pos 2) ∷ (negsuc 0, pos 2) ∷ (negsuc 80, pos 1) ∷ (negsuc 80, pos 1) ∷ (pos 0, pos 0) ∷ (pos 0, pos 0) ∷ []) refl refl is',
+)
+
+-- the resale round, with a unit on some arcs
+
+abbrev on : List ℕ → ℕ → ℕ
+on ys i = slice_index_or ys i 0
+
+abbrev pub resale_net : List Holding → Net
+resale_net hs = net_of (resale_book hs)
+
+abbrev pub resale_flows : ℕ → ℕ
+resale_flows = on (1 ∷ 1 ∷ 1 ∷ 1 ∷ 0 ∷ 0 ∷ 0 ∷ 0 ∷ 0 ∷ 0 ∷ 1 ∷ 1 ∷ 1 ∷ [])
+
+pub resale_clears : (w : ℕ) → worth money (graph money (resale_net (held 0 1 1 ∷ []))) resale_flows ≡ cents w → Clears money (cents w) (resale_net (held 0 1 1 ∷ []))
+resale_clears w is = clears money_laws (finish money_laws (begins money resale_run) resale_flows (levels (pos 0 ∷ pos 150 ∷ pos 100 ∷ [])) (cents w) refl is)
+
+abbrev pub quay_net : ℕ → Net
+quay_net units = resale_net (held 0 1 1 ∷ held 1 1 units ∷ [])
+
+pub quay_clears : (units : ℕ) (ys : List ℕ) (at : List ℤ) (w : ℕ) → leb units 1000 ≡ true → finish_test money (quay_net units) (on ys) (levels at) ≡ true → worth money (graph money (quay_net units)) (on ys) ≡ cents w → Clears money (cents w) (quay_net units)
+quay_clears units ys at w h test is = clears money_laws (finish money_laws (begins money (quay_run units h)) (on ys) (levels at) (cents w) test is)
+
+pub clears_with_none : (w : ℕ) → worth money (graph money (quay_net 0)) (on (1 ∷ 0 ∷ 1 ∷ 1 ∷ 1 ∷ 0 ∷ 0 ∷ 0 ∷ 0 ∷ 0 ∷ 0 ∷ 1 ∷ 1 ∷ 1 ∷ [])) ≡ cents w → Clears money (cents w) (quay_net 0)
+clears_with_none w is = quay_clears 0 (1 ∷ 0 ∷ 1 ∷ 1 ∷ 1 ∷ 0 ∷ 0 ∷ 0 ∷ 0 ∷ 0 ∷ 0 ∷ 1 ∷ 1 ∷ 1 ∷ []) (pos 0 ∷ pos 150 ∷ pos 100 ∷ []) w refl refl is
+
+pub clears_with_one : (w : ℕ) → worth money (graph money (quay_net 1)) (λ i. 1) ≡ cents w → Clears money (cents w) (quay_net 1)
+clears_with_one w is = clears money_laws (finish money_laws (begins money (quay_run 1 refl)) (λ i. 1) (levels (pos 0 ∷ pos 120 ∷ pos 100 ∷ pos 120 ∷ [])) (cents w) refl is)
+
+-- the example market
+
+abbrev pub market_net : Net
+market_net = net_of market_book
+
+abbrev pub market_flows : ℕ → ℕ
+market_flows = on (50 ∷ 20 ∷ 30 ∷ 20 ∷ 20 ∷ 50 ∷ 0 ∷ 50 ∷ 20 ∷ 30 ∷ 20 ∷ 10 ∷ 30 ∷ 30 ∷ 10 ∷ 20 ∷ 30 ∷ 30 ∷ 0 ∷ 20 ∷ 20 ∷ 20 ∷ 20 ∷ 20 ∷ 20 ∷ 40 ∷ 40 ∷ 20 ∷ 20 ∷ [])
+
+pub market_clears : (w : ℕ) (x : ℕ × ℕ) → worth money (graph money market_net) market_flows ≡ cents w → worth M (graph M market_net) market_flows ≡ both x → Clears money (cents w) market_net × Clears M (both x) market_net
+market_clears w x is is' = (
+  clears money_laws (finish money_laws (begins money market_run) market_flows (levels (pos 0 ∷ pos 100 ∷ pos 200 ∷ pos 250 ∷ pos 50 ∷ pos 100 ∷ pos 200 ∷ pos 250 ∷ pos 50 ∷ pos 50 ∷ pos 0 ∷ pos 0 ∷ pos 0 ∷ pos 0 ∷ negsuc 9 ∷ negsuc 9 ∷ pos 0 ∷ pos 0 ∷ negsuc 9 ∷ negsuc 9 ∷ negsuc 9 ∷ negsuc 9 ∷ [])) (cents w) refl is),
+  clears M_laws (finish M_laws (begins M market_run) market_flows (pairs ((pos 10, pos 1) ∷ (pos 110, pos 1) ∷ (pos 210, pos 1) ∷ (pos 260, pos 2) ∷ (pos 60, pos 2) ∷ (pos 110, pos 1) ∷ (pos 210, pos 1) ∷ (pos 260, pos 2) ∷ (pos 60, pos 2) ∷ (pos 60, pos 0) ∷ (pos 10, pos 1) ∷ (pos 10, pos 1) ∷ (pos 10, pos 1) ∷ (pos 10, pos 1) ∷ (pos 0, pos 2) ∷ (pos 0, pos 2) ∷ (pos 10, pos 1) ∷ (pos 10, pos 1) ∷ [])) (both x) refl is'),
 )
 
 -- the haul table, with 3 units on both roads

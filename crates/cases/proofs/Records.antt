@@ -1,5 +1,5 @@
 -- Records, by what they hold: that they read, and what check comes to on them.
-use Rattle.std.proofs.Common.{◌≡◌, ℕ, ◌≤◌, Bool, true, ◌&&◌, eqb, leb, List, [], ◌∷◌, length, ℤ, Ok, Err, Result, Some, None, Option, MatchResult, sym, refl, ap, ◌∙◌, subst, inl, inr, arith}
+use Rattle.std.proofs.Common.{◌≡◌, ℕ, suc, ◌≤◌, Bool, true, ◌&&◌, eqb, leb, List, [], ◌∷◌, length, ℤ, Ok, Err, Result, Some, None, Option, MatchResult, sym, refl, ap, ◌∙◌, subst, inl, inr, arith}
 use Rattle.std.proofs.lemmas.Bool.{and_parts, leb-true, eqb-true}
 use Rattle.std.specs.List.{AllByRecursion}
 use Rattle.tables.specs.Refusals.{First, number}
@@ -96,13 +96,25 @@ failing_with text x e n reads f is = record { some = (Err (record { refusal = e;
 abbrev pub all : ℕ → Allotment
 all units k = record { give = λ t. units; get = λ t. units }
 
-fair_side : (units : ℕ) → units ≤ 1000 → (ls : List Line) → AllWith (λ l n. n ≤ 1000) ls (λ t. units)
-fair_side units h [] = tt
-fair_side units h (l ∷ ls) = (h, fair_side units h ls)
+-- at most 1,000 units on each line
+abbrev units_pass : List Line → (ℕ → ℕ) → Bool
+units_pass [] x = true
+units_pass (l ∷ ls) x = leb (x 0) 1000 && units_pass ls (λ t. x (suc t))
 
-pub fair_all : (units : ℕ) → units ≤ 1000 → (os : List Offer) → FairAllotment os (all units)
-fair_all units h [] = tt
-fair_all units h (o ∷ os) = ((fair_side units h o.give, fair_side units h o.get), fair_all units h os)
+abbrev pub allotment_passes : List Offer → Allotment → Bool
+allotment_passes [] a = true
+allotment_passes (o ∷ os) a = (units_pass o.give (a 0).give && units_pass o.get (a 0).get) && allotment_passes os (λ k. a (suc k))
+
+fair_side : (ls : List Line) (x : ℕ → ℕ) → units_pass ls x ≡ true → AllWith (λ l n. n ≤ 1000) ls x
+fair_side [] x h = tt
+fair_side (l ∷ ls) x h = let p = and_parts (leb (x 0) 1000) (units_pass ls (λ t. x (suc t))) h in (leb-true (x 0) 1000 p.0, fair_side ls (λ t. x (suc t)) p.1)
+
+pub fair_allotment : (os : List Offer) (a : Allotment) → allotment_passes os a ≡ true → FairAllotment os a
+fair_allotment [] a h = tt
+fair_allotment (o ∷ os) a h =
+    let p = and_parts (units_pass o.give (a 0).give && units_pass o.get (a 0).get) (allotment_passes os (λ k. a (suc k))) h in
+    let q = and_parts (units_pass o.give (a 0).give) (units_pass o.get (a 0).get) p.0 in
+    ((fair_side o.give (a 0).give q.0, fair_side o.get (a 0).get q.1), fair_allotment os (λ k. a (suc k)) p.1)
 
 abbrev are_fair : Kind → List (List ℤ) → Bool
 are_fair k [] = true
@@ -115,9 +127,9 @@ fair_levels k (z ∷ zs) h =
     let q = and_parts (leb (level_size z) 1000000) (are_fair k zs) p.1 in
     ((eqb-true (length z) (parts k) p.0, leb-true (level_size z) 1000000 q.0), fair_levels k zs q.1)
 
--- a record of a sound book, with as many units on each line, reads
-pub reading : (text : List ℕ) (k : Kind) (b : Book) (units : ℕ) (zs : List (List ℤ)) → Sound b → leb units 1000 ≡ true → are_fair k zs ≡ true → length zs ≡ nodes b → text ≡ render (contents_of k b (all units) zs) → Reads text (contents_of k b (all units) zs)
-reading text k b units zs s h fair long e = (reads_records text (contents_of k b (all units) zs)).1 (e, (all_recorded k b (all units) zs).valid s (fair_all units (leb-true units 1000 h) b.offers) (fair_levels k zs fair) long)
+-- a record of a sound book, with fair units and levels, reads
+pub reading : (text : List ℕ) (k : Kind) (b : Book) (a : Allotment) (zs : List (List ℤ)) → Sound b → allotment_passes b.offers a ≡ true → are_fair k zs ≡ true → length zs ≡ nodes b → text ≡ render (contents_of k b a zs) → Reads text (contents_of k b a zs)
+reading text k b a zs s h fair long e = (reads_records text (contents_of k b a zs)).1 (e, (all_recorded k b a zs).valid s (fair_allotment b.offers a h) (fair_levels k zs fair) long)
 
 -- an allotment that fills the network with a circulation within the capacities is allowed
 module _ (b : Book) (a : Allotment) (s : Sound b) where

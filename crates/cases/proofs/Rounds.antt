@@ -24,6 +24,8 @@ use Rattle.haul_table.specs.Uses as hauls
 use Rattle.haul_table.proofs.Standing.{law_holds}
 use Rattle.cases.specs.Calls.{Answer, numbered, done, refused, Run, stopped, went, Call, item, member, hold, offer, Calls, Roads}
 use Rattle.cases.specs.Chain.{line, chain, chain_answers}
+use Rattle.cases.specs.Resale.{resale, resale_answers}
+use Rattle.cases.specs.Market.{market, market_answers}
 use Rattle.cases.specs.Cases.{two_roads, cash_for_cash}
 use Rattle.cases.proofs.Calls.{run_on}
 use Rattle.cases.proofs.Building.{takes_item, takes_member, takes_holding, takes_offer, refuses_loop, roaded, takes_road}
@@ -85,6 +87,79 @@ chain_run last h = run_on started (offered two last h)
 
 pub cash_run : (units : ℕ) → leb units 1000 ≡ true → Run Calls fresh (chain (hold 2 0 units ∷ []) 160) (chain_answers (done ∷ [])) (chain_book (two ++ held 2 0 units ∷ []) 160)
 cash_run units h = run_on started (went (takes_holding (unoffered two) 2 0 units (rw h refl)) (offered (two ++ held 2 0 units ∷ []) 160 refl))
+
+-- the resale round
+
+abbrev resold : List Holding → Book
+resold hs = record { items = codes "cash" ∷ codes "week-a" ∷ []; members = codes "north" ∷ codes "quay" ∷ codes "west" ∷ []; holdings = hs; offers = [] }
+
+abbrev pub resale_book : List Holding → Book
+resale_book hs = record {
+  items = codes "cash" ∷ codes "week-a" ∷ [];
+  members = codes "north" ∷ codes "quay" ∷ codes "west" ∷ [];
+  holdings = hs;
+  offers = made 0 1 (line 1 1 100 ∷ []) (line 0 1 0 ∷ []) ∷ made 1 1 (line 0 1 0 ∷ []) (line 1 1 150 ∷ []) ∷ made 1 1 (line 1 1 120 ∷ []) (line 0 1 0 ∷ []) ∷ made 2 1 (line 0 1 0 ∷ []) (line 1 1 200 ∷ []) ∷ [];
+}
+
+resale_started : Run Calls fresh (item (codes "week-a") ∷ member (codes "north") ∷ member (codes "quay") ∷ member (codes "west") ∷ hold 0 1 1 ∷ []) (numbered 1 ∷ numbered 0 ∷ numbered 1 ∷ numbered 2 ∷ done ∷ []) (resold (held 0 1 1 ∷ []))
+resale_started =
+    went (takes_item _ (codes "week-a") refl) (
+    went (takes_member _ (codes "north") refl) (
+    went (takes_member _ (codes "quay") refl) (
+    went (takes_member _ (codes "west") refl) (
+    went (takes_holding _ 0 1 1 refl) stopped))))
+
+resale_offered : (hs : List Holding) → Run Calls (resold hs) (offer 0 1 (line 1 1 100 ∷ []) (line 0 1 0 ∷ []) ∷ offer 1 1 (line 0 1 0 ∷ []) (line 1 1 150 ∷ []) ∷ offer 1 1 (line 1 1 120 ∷ []) (line 0 1 0 ∷ []) ∷ offer 2 1 (line 0 1 0 ∷ []) (line 1 1 200 ∷ []) ∷ []) (numbered 0 ∷ numbered 1 ∷ numbered 2 ∷ numbered 3 ∷ []) (resale_book hs)
+resale_offered hs =
+    went (takes_offer _ 0 1 (line 1 1 100 ∷ []) (line 0 1 0 ∷ []) refl refl) (
+    went (takes_offer _ 1 1 (line 0 1 0 ∷ []) (line 1 1 150 ∷ []) refl refl) (
+    went (takes_offer _ 1 1 (line 1 1 120 ∷ []) (line 0 1 0 ∷ []) refl refl) (
+    went (takes_offer _ 2 1 (line 0 1 0 ∷ []) (line 1 1 200 ∷ []) refl refl) stopped)))
+
+pub resale_run : Run Calls fresh (resale []) (resale_answers []) (resale_book (held 0 1 1 ∷ []))
+resale_run = run_on resale_started (resale_offered (held 0 1 1 ∷ []))
+
+pub quay_run : (units : ℕ) → leb units 1000 ≡ true → Run Calls fresh (resale (hold 1 1 units ∷ [])) (resale_answers (done ∷ [])) (resale_book (held 0 1 1 ∷ held 1 1 units ∷ []))
+quay_run units h = run_on resale_started (went (takes_holding (resold (held 0 1 1 ∷ [])) 1 1 units (rw h refl)) (resale_offered (held 0 1 1 ∷ held 1 1 units ∷ [])))
+
+-- the example market
+
+abbrev pub market_book : Book
+market_book = record {
+  items = codes "cash" ∷ codes "week-a" ∷ codes "week-b" ∷ codes "week-c" ∷ codes "week-d" ∷ [];
+  members = codes "harbour-1" ∷ codes "harbour-2" ∷ codes "harbour-3" ∷ codes "harbour-4" ∷ [];
+  holdings = held 0 1 50 ∷ held 0 2 30 ∷ held 1 3 40 ∷ held 1 4 20 ∷ held 2 4 20 ∷ [];
+  offers =
+      made 0 80 (line 1 50 100 ∷ line 2 30 200 ∷ []) (line 4 40 50 ∷ line 0 40 0 ∷ [])
+      ∷ made 0 40 (line 2 30 200 ∷ line 0 20 0 ∷ []) (line 3 40 250 ∷ [])
+      ∷ made 1 40 (line 3 30 260 ∷ line 4 20 60 ∷ []) (line 1 30 120 ∷ line 2 30 190 ∷ [])
+      ∷ made 1 20 (line 3 20 240 ∷ []) (line 0 20 0 ∷ [])
+      ∷ made 2 20 (line 4 20 60 ∷ []) (line 1 20 120 ∷ [])
+      ∷ made 3 40 (line 0 40 0 ∷ []) (line 2 30 210 ∷ line 4 20 80 ∷ [])
+      ∷ [];
+}
+
+pub market_run : Run Calls fresh market market_answers market_book
+market_run =
+    went (takes_item _ (codes "week-a") refl) (
+    went (takes_item _ (codes "week-b") refl) (
+    went (takes_item _ (codes "week-c") refl) (
+    went (takes_item _ (codes "week-d") refl) (
+    went (takes_member _ (codes "harbour-1") refl) (
+    went (takes_member _ (codes "harbour-2") refl) (
+    went (takes_member _ (codes "harbour-3") refl) (
+    went (takes_member _ (codes "harbour-4") refl) (
+    went (takes_holding _ 0 1 50 refl) (
+    went (takes_holding _ 0 2 30 refl) (
+    went (takes_holding _ 1 3 40 refl) (
+    went (takes_holding _ 1 4 20 refl) (
+    went (takes_holding _ 2 4 20 refl) (
+    went (takes_offer _ 0 80 (line 1 50 100 ∷ line 2 30 200 ∷ []) (line 4 40 50 ∷ line 0 40 0 ∷ []) refl refl) (
+    went (takes_offer _ 0 40 (line 2 30 200 ∷ line 0 20 0 ∷ []) (line 3 40 250 ∷ []) refl refl) (
+    went (takes_offer _ 1 40 (line 3 30 260 ∷ line 4 20 60 ∷ []) (line 1 30 120 ∷ line 2 30 190 ∷ []) refl refl) (
+    went (takes_offer _ 1 20 (line 3 20 240 ∷ []) (line 0 20 0 ∷ []) refl refl) (
+    went (takes_offer _ 2 20 (line 4 20 60 ∷ []) (line 1 20 120 ∷ []) refl refl) (
+    went (takes_offer _ 3 40 (line 0 40 0 ∷ []) (line 2 30 210 ∷ line 4 20 80 ∷ []) refl refl) stopped))))))))))))))))))
 
 -- cash on both sides
 

@@ -1,12 +1,12 @@
 -- The records of the worked cases.
-use Rattle.std.proofs.Common.{◌≡◌, ℕ, Some, None, Ok, Err, Result, MatchResult, length, take, drop, ap, ◌∙◌, subst, inl, inr, ◌<◌, ◌≤◌, List, [], ◌∷◌, ◌++◌, map, ℤ, pos, negsuc, codes, refl, sym, subst₂, true≢false, arith}
+use Rattle.std.proofs.Common.{slice_index_or, ◌≡◌, ℕ, Some, None, Ok, Err, Result, MatchResult, length, take, drop, ap, ◌∙◌, subst, inl, inr, ◌<◌, ◌≤◌, List, [], ◌∷◌, ◌++◌, map, ℤ, pos, negsuc, codes, refl, sym, subst₂, true≢false, arith}
 use Rattle.std.proofs.lemmas.Bool.{ltb-true}
 use Rattle.tables.specs.Refusals.{number}
 use Rattle.tables.specs.declared.refusal.Refusal.TheVariants.{Unfit, Rule}
 use Rattle.worth.specs.Money.{money}
 use Rattle.worth.specs.Weeks.{weeks}
 use Rattle.worth.specs.Lexicographic.{pile}
-use Rattle.book.specs.Allotments.{Allowed}
+use Rattle.book.specs.Allotments.{Allotment, Allowed}
 use Rattle.book.specs.Books.{Book, Sound}
 use Rattle.layout.specs.Records.{by_money, by_money_then_weeks, Contents, allotted, contents_of}
 use Rattle.layout.specs.Runs.{Reads}
@@ -19,6 +19,7 @@ use Rattle.round.specs.Rounds.{fresh}
 use Rattle.cases.specs.Calls.{stopped}
 use Rattle.cases.specs.Texts.{RecordOf, Passing, Failing}
 use Rattle.cases.specs.Chain.{money_text, chain_levels, raised_levels, levels_with_79, cash_text, weeks_text}
+use Rattle.cases.specs.Market.{market_text}
 use Rattle.cases.specs.Cases.{empty_text}
 use Rattle.std.proofs.lemmas.Option.{none-some}
 use Rattle.std.proofs.Math.Seq.{take-append_seam}
@@ -28,7 +29,6 @@ use Rattle.network.specs.Networks.{value}
 use Rattle.book.specs.Arcs.{filled}
 use Rattle.layout.specs.Render.{render}
 use Rattle.record.specs.declared.passed.Total.TheVariants.{Money}
-use Rattle.std.proofs.lemmas.Bool.{leb-true}
 use Rattle.std.specs.List.{AllByRecursion}
 use Rattle.tables.specs.Refusals.{Row, when, First}
 use Rattle.tables.specs.declared.refusal.Refusal.{Refusal}
@@ -46,9 +46,9 @@ use Rattle.record.proofs.Passing.{evidence}
 use Rattle.cases.specs.Texts.{Filing, ClearingSheet, PassingAt}
 use Rattle.cases.specs.Chain.{filed_levels, threes, chain_sheet}
 use Rattle.cases.proofs.Building.{first_none, no_any}
-use Rattle.cases.proofs.Records.{fair_all, fair_levels}
+use Rattle.cases.proofs.Records.{fair_allotment, fair_levels}
 use Rattle.cases.proofs.Records.{record_of, passing, at_worth, failing_with, all, reading, allowed_by, fitted}
-use Rattle.cases.proofs.Rounds.{sound, held, two, chain_book, chain_run, cash_run}
+use Rattle.cases.proofs.Rounds.{sound, held, two, chain_book, chain_run, cash_run, market_book, market_run}
 
 -- levels by money
 abbrev levels : List ℤ → List (List ℤ)
@@ -60,7 +60,7 @@ abbrev empty : Contents
 empty = contents_of by_money fresh (all 0) (levels (pos 0 ∷ []))
 
 empty_reads : Reads empty_text empty
-empty_reads = reading empty_text by_money fresh 0 (levels (pos 0 ∷ [])) (sound stopped) refl refl refl refl
+empty_reads = reading empty_text by_money fresh (all 0) (levels (pos 0 ∷ [])) (sound stopped) refl refl refl refl
 
 pub empty_is : RecordOf empty_text by_money fresh
 empty_is = record_of empty_text empty empty_reads
@@ -86,7 +86,7 @@ threes_allowed : (zs : List ℤ) → Allowed book (allotted (chain 3 zs))
 threes_allowed zs = allowed_by book (allotted (chain 3 zs)) book_sound refl refl
 
 chain_reads : Reads (money_text (codes "3") chain_levels) (chain 3 fitting)
-chain_reads = reading (money_text (codes "3") chain_levels) by_money book 3 (levels fitting) book_sound refl refl refl refl
+chain_reads = reading (money_text (codes "3") chain_levels) by_money book (all 3) (levels fitting) book_sound refl refl refl refl
 
 pub chain_is : RecordOf (money_text (codes "3") chain_levels) by_money book
 chain_is = record_of (money_text (codes "3") chain_levels) (chain 3 fitting) chain_reads
@@ -122,7 +122,7 @@ sheet = contents_of by_money book (all 0) []
 
 sheet_reads : Reads chain_sheet sheet
 sheet_reads =
-    let v = (all_recorded by_money book (all 0) filed_levels).valid book_sound (fair_all 0 (leb-true 0 1000 refl) book.offers) (fair_levels by_money filed_levels refl) refl in
+    let v = (all_recorded by_money book (all 0) filed_levels).valid book_sound (fair_allotment book.offers (all 0) refl) (fair_levels by_money filed_levels refl) refl in
     (reads_records chain_sheet sheet).1 (refl, record { sound = v.sound; units = v.units; levels = tt; levelled = inl refl })
 
 is_sheet : Sheet sheet
@@ -165,7 +165,7 @@ abbrev raised : List ℤ
 raised = pos 7 ∷ pos 107 ∷ pos 167 ∷ pos 107 ∷ pos 167 ∷ pos 7 ∷ pos 7 ∷ pos 17 ∷ negsuc 72 ∷ pos 7 ∷ pos 7 ∷ []
 
 raised_reads : Reads (money_text (codes "3") raised_levels) (chain 3 raised)
-raised_reads = reading (money_text (codes "3") raised_levels) by_money book 3 (levels raised) book_sound refl refl refl refl
+raised_reads = reading (money_text (codes "3") raised_levels) by_money book (all 3) (levels raised) book_sound refl refl refl refl
 
 pub raised_passes : (worth : Total) (offers : List OfferResult) → total_by by_money (network_of (chain 3 raised)) ≡ worth → map_with result_of book.offers (allotted (chain 3 raised)) ≡ offers → Passing (money_text (codes "3") raised_levels) worth offers
 raised_passes worth offers is are = passing (money_text (codes "3") raised_levels) (chain 3 raised) worth offers raised_reads (threes_allowed raised) (fitted money (network_of (chain 3 raised)) (map amount (levels raised)) refl refl refl) is are
@@ -179,7 +179,7 @@ changed_misfit : LevelsFit by_money (network_of (chain 3 changed)) (levels chang
 changed_misfit f = true≢false ((f.fits 7 (ltb-true 7 11 refl)).0 (ltb-true 3 4 refl))
 
 changed_reads : Reads (money_text (codes "3") levels_with_79) (chain 3 changed)
-changed_reads = reading (money_text (codes "3") levels_with_79) by_money book 3 (levels changed) book_sound refl refl refl refl
+changed_reads = reading (money_text (codes "3") levels_with_79) by_money book (all 3) (levels changed) book_sound refl refl refl refl
 
 pub changed_fails : (n : ℕ) → number Unfit ≡ n → Failing (money_text (codes "3") levels_with_79) n
 changed_fails n is = failing_with (money_text (codes "3") levels_with_79) (chain 3 changed) Unfit n changed_reads ((λ h. absurd (h (threes_allowed changed))), λ _. ((λ _. refl), λ h. absurd (h changed_misfit))) is
@@ -193,7 +193,7 @@ twos_allowed : Allowed book (allotted (chain 2 fitting))
 twos_allowed = allowed_by book (allotted (chain 2 fitting)) book_sound refl refl
 
 twos_read : Reads (money_text (codes "2") chain_levels) (chain 2 fitting)
-twos_read = reading (money_text (codes "2") chain_levels) by_money book 2 (levels fitting) book_sound refl refl refl refl
+twos_read = reading (money_text (codes "2") chain_levels) by_money book (all 2) (levels fitting) book_sound refl refl refl refl
 
 pub twos_fail : (n : ℕ) → number Unfit ≡ n → Failing (money_text (codes "2") chain_levels) n
 twos_fail n is = failing_with (money_text (codes "2") chain_levels) (chain 2 fitting) Unfit n twos_read ((λ h. absurd (h twos_allowed)), λ _. ((λ _. refl), λ h. absurd (h twos_misfit))) is
@@ -204,7 +204,7 @@ fours_forbidden : Allowed book (allotted (chain 4 fitting)) → ⊥
 fours_forbidden h = let x : 4 ≤ 3 = h.limits.1.0 in omega arith
 
 fours_read : Reads (money_text (codes "4") chain_levels) (chain 4 fitting)
-fours_read = reading (money_text (codes "4") chain_levels) by_money book 4 (levels fitting) book_sound refl refl refl refl
+fours_read = reading (money_text (codes "4") chain_levels) by_money book (all 4) (levels fitting) book_sound refl refl refl refl
 
 pub fours_fail : (n : ℕ) → number Rule ≡ n → Failing (money_text (codes "4") chain_levels) n
 fours_fail n is = failing_with (money_text (codes "4") chain_levels) (chain 4 fitting) Rule n fours_read ((λ _. refl), λ h. absurd (h fours_forbidden)) is
@@ -221,7 +221,7 @@ abbrev cash : Contents
 cash = contents_of by_money cash_book (all 2) (levels (pos 0 ∷ pos 100 ∷ pos 70 ∷ pos 100 ∷ pos 70 ∷ negsuc 89 ∷ pos 0 ∷ pos 0 ∷ negsuc 79 ∷ negsuc 79 ∷ negsuc 89 ∷ negsuc 89 ∷ []))
 
 cash_reads : Reads cash_text cash
-cash_reads = reading cash_text by_money cash_book 2 cash.levels cash_sound refl refl refl refl
+cash_reads = reading cash_text by_money cash_book (all 2) cash.levels cash_sound refl refl refl refl
 
 pub cash_is : RecordOf cash_text by_money cash_book
 cash_is = record_of cash_text cash cash_reads
@@ -241,10 +241,33 @@ abbrev weekly : Contents
 weekly = contents_of by_money_then_weeks weeks_book (all 3) ((pos 0 ∷ pos 0 ∷ []) ∷ (pos 100 ∷ pos 0 ∷ []) ∷ (pos 70 ∷ pos 1 ∷ []) ∷ (pos 100 ∷ pos 0 ∷ []) ∷ (pos 70 ∷ pos 1 ∷ []) ∷ (pos 0 ∷ pos 0 ∷ []) ∷ (pos 0 ∷ pos 0 ∷ []) ∷ (negsuc 79 ∷ pos 1 ∷ []) ∷ (negsuc 79 ∷ negsuc 0 ∷ []) ∷ (pos 0 ∷ pos 0 ∷ []) ∷ (pos 0 ∷ pos 0 ∷ []) ∷ [])
 
 weeks_read : Reads weeks_text weekly
-weeks_read = reading weeks_text by_money_then_weeks weeks_book 3 weekly.levels weeks_sound refl refl refl refl
+weeks_read = reading weeks_text by_money_then_weeks weeks_book (all 3) weekly.levels weeks_sound refl refl refl refl
 
 pub weeks_is : RecordOf weeks_text by_money_then_weeks weeks_book
 weeks_is = record_of weeks_text weekly weeks_read
 
 pub weeks_pass : (worth : Total) (offers : List OfferResult) → total_by by_money_then_weeks (network_of weekly) ≡ worth → map_with result_of weeks_book.offers (allotted weekly) ≡ offers → Passing weeks_text worth offers
 weeks_pass worth offers is are = passing weeks_text weekly worth offers weeks_read (allowed_by weeks_book (allotted weekly) weeks_sound refl refl) (fitted (pile money weeks) (network_of weekly) (map amount_and_weeks weekly.levels) refl refl refl) is are
+
+-- the example market
+
+abbrev by_lists : List (List ℕ × List ℕ) → Allotment
+by_lists us k = let u = slice_index_or us k ([], []) in record { give = λ t. slice_index_or u.0 t 0; get = λ t. slice_index_or u.1 t 0 }
+
+abbrev traded : Allotment
+traded = by_lists ((50 ∷ 0 ∷ [], 20 ∷ 30 ∷ []) ∷ (20 ∷ 10 ∷ [], 30 ∷ []) ∷ (10 ∷ 20 ∷ [], 30 ∷ 0 ∷ []) ∷ (20 ∷ [], 20 ∷ []) ∷ (20 ∷ [], 20 ∷ []) ∷ (40 ∷ [], 20 ∷ 20 ∷ []) ∷ [])
+
+market_sound : Sound market_book
+market_sound = sound market_run
+
+abbrev traded_record : Contents
+traded_record = contents_of by_money market_book traded (levels (pos 0 ∷ pos 100 ∷ pos 200 ∷ pos 250 ∷ pos 50 ∷ pos 100 ∷ pos 200 ∷ pos 250 ∷ pos 50 ∷ pos 50 ∷ pos 0 ∷ pos 0 ∷ pos 0 ∷ pos 0 ∷ negsuc 9 ∷ negsuc 9 ∷ pos 0 ∷ pos 0 ∷ negsuc 9 ∷ negsuc 9 ∷ negsuc 9 ∷ negsuc 9 ∷ []))
+
+market_reads : Reads market_text traded_record
+market_reads = reading market_text by_money market_book traded traded_record.levels market_sound refl refl refl refl
+
+pub market_is : RecordOf market_text by_money market_book
+market_is = record_of market_text traded_record market_reads
+
+pub market_passes : (worth : Total) (offers : List OfferResult) → total_by by_money (network_of traded_record) ≡ worth → map_with result_of market_book.offers (allotted traded_record) ≡ offers → Passing market_text worth offers
+market_passes worth offers is are = passing market_text traded_record worth offers market_reads (allowed_by market_book (allotted traded_record) market_sound refl refl) (fitted money (network_of traded_record) (map amount traded_record.levels) refl refl refl) is are

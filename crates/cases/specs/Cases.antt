@@ -17,6 +17,8 @@ use Rattle.cases.specs.Calls.{numbered, done, refused, Call, member, hold, offer
 use Rattle.cases.specs.Clearing.{Best, RisesOnce, Clears}
 use Rattle.cases.specs.Texts.{RecordOf, Passing, Failing, Filing, ClearingSheet}
 use Rattle.cases.specs.Chain.{line, chain, chain_answers, money_text, chain_levels, filed_levels, threes, raised_levels, levels_with_79, chain_sheet, cash_text, weeks_text}
+use Rattle.cases.specs.Resale.{resale, resale_answers}
+use Rattle.cases.specs.Market.{market, market_answers, market_text}
 
 -- so many cents
 abbrev pub cents : ℕ → Money
@@ -53,6 +55,11 @@ pub record Numbers : Type 0 where
   pub rise_at_70_with_weeks : ℕ × ℕ
   pub rise_at_69 : ℕ
   pub rise_at_69_with_weeks : ℕ × ℕ
+  pub resale_rise : ℕ
+  pub resale_rise_with_none : ℕ
+  pub resale_rise_with_one : ℕ
+  pub market_rise : ℕ
+  pub market_rise_with_weeks : ℕ × ℕ
   pub record_length : ℕ
   pub sheet_worth : ℕ
   pub empty_record : ℕ
@@ -60,6 +67,7 @@ pub record Numbers : Type 0 where
   pub raised_record : ℕ
   pub cash_record : ℕ
   pub weeks_record : ℕ × ℕ
+  pub market_record : ℕ
   pub refusal_with_79 : ℕ
   pub refusal_of_twos : ℕ
   pub refusal_of_fours : ℕ
@@ -81,11 +89,18 @@ pub record Cases (x : Numbers) : Type 0 where
   -- with another last price, by money and by money then weeks
   pub at_70 : Closed (chain [] 70) (chain_answers []) (λ n. Clears money (cents x.rise_at_70) n × Clears (pile money weeks) (both x.rise_at_70_with_weeks) n)
   pub at_69 : Closed (chain [] 69) (chain_answers []) (λ n. Clears money (cents x.rise_at_69) n × Clears (pile money weeks) (both x.rise_at_69_with_weeks) n)
+  -- the resale round, where quay has no holding, one of 0 units and one of 1 unit
+  pub resale_without : Closed (resale []) (resale_answers []) (Clears money (cents x.resale_rise))
+  pub resale_with_none : Closed (resale (hold 1 1 0 ∷ [])) (resale_answers (done ∷ [])) (Clears money (cents x.resale_rise_with_none))
+  pub resale_with_one : Closed (resale (hold 1 1 1 ∷ [])) (resale_answers (done ∷ [])) (Clears money (cents x.resale_rise_with_one))
+  -- the example market, by money and by money then weeks
+  pub market_clears : Closed market market_answers (λ n. Clears money (cents x.market_rise) n × Clears (pile money weeks) (both x.market_rise_with_weeks) n)
   -- the texts are records of those rounds
   pub is_empty_record : Built [] [] (RecordOf empty_text by_money)
   pub is_chain_record : Built (chain [] 160) (chain_answers []) (RecordOf (money_text (codes "3") chain_levels) by_money)
   pub is_cash_record : Built (chain (hold 2 0 2 ∷ []) 160) (chain_answers (done ∷ [])) (RecordOf cash_text by_money)
   pub is_weeks_record : Built (chain [] 70) (chain_answers []) (RecordOf weeks_text by_money_then_weeks)
+  pub is_market_record : Built market market_answers (RecordOf market_text by_money)
   -- file writes that of the chain round, and clear_sheet fills in its sheet
   pub chain_filed : Built (chain [] 160) (chain_answers []) (λ b. Filing (money_text (codes "3") chain_levels) by_money b threes filed_levels x.record_length)
   pub sheet_cleared : ClearingSheet chain_sheet (total.Money (cents x.sheet_worth))
@@ -95,6 +110,7 @@ pub record Cases (x : Numbers) : Type 0 where
   pub raised_passes : Passing (money_text (codes "3") raised_levels) (total.Money (cents x.raised_record)) (comes_to (negsuc 299) 0 ∷ comes_to (pos 90) 3 ∷ comes_to (pos 480) 3 ∷ [])
   pub cash_passes : Passing cash_text (total.Money (cents x.cash_record)) (comes_to (negsuc 199) 0 ∷ comes_to (pos 60) 2 ∷ comes_to (pos 320) 2 ∷ [])
   pub weeks_passes : Passing weeks_text (total.MoneyThenWeeks (both x.weeks_record)) (comes_to (negsuc 299) 0 ∷ comes_to (pos 90) 3 ∷ comes_to (pos 210) 3 ∷ [])
+  pub market_passes : Passing market_text (total.Money (cents x.market_record)) (comes_to (negsuc 3999) 20 ∷ comes_to (pos 3500) 30 ∷ comes_to (negsuc 199) 30 ∷ comes_to (negsuc 4799) 0 ∷ comes_to (pos 1200) 20 ∷ comes_to (pos 5800) 40 ∷ [])
   -- with -79 for -80, with 2 units on each line, and with 4, it fails
   pub with_79_fails : Failing (money_text (codes "3") levels_with_79) x.refusal_with_79
   pub twos_fail : Failing (money_text (codes "2") chain_levels) x.refusal_of_twos

@@ -12,6 +12,11 @@ pub fn cases_stand() -> u8
       rise_at_70_with_weeks = (0, 6);
       rise_at_69 = 0;
       rise_at_69_with_weeks = (0, 0);
+      resale_rise = 100;
+      resale_rise_with_none = 100;
+      resale_rise_with_one = 130;
+      market_rise = 1500;
+      market_rise_with_weeks = (1500, 140);
       record_length = 198;
       sheet_worth = 270;
       empty_record = 0;
@@ -19,6 +24,7 @@ pub fn cases_stand() -> u8
       raised_record = 270;
       cash_record = 180;
       weeks_record = (0, 6);
+      market_record = 1500;
       refusal_with_79 = 11;
       refusal_of_twos = 11;
       refusal_of_fours = 15;

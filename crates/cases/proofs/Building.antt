@@ -4,7 +4,7 @@ use Rattle.std.proofs.lemmas.Bool.{both_ways, and_parts, and_from, not-true, ltb
 use Rattle.std.proofs.ByRecursion.{All-weaker}
 use Rattle.std.specs.List.{AllByRecursion}
 use Rattle.tables.specs.Refusals.{Row, when, First, number}
-use Rattle.tables.specs.declared.refusal.Refusal.TheVariants.{Loop}
+use Rattle.tables.specs.declared.refusal.Refusal.TheVariants.{Bounds, Price, Loop}
 use Rattle.flow.specs.declared.arc.Arc.{Arc}
 use Rattle.network.specs.Networks.{Net}
 use Rattle.book.specs.Spelling.{Spelt, name_bytes}
@@ -111,7 +111,7 @@ takes_holding b m i units h =
 
 -- offers
 
-abbrev is_limit : ℕ → Bool
+abbrev pub is_limit : ℕ → Bool
 is_limit n = leb 1 n && leb n 1000
 
 limit_in : (n : ℕ) → is_limit n ≡ true → Out n → ⊥
@@ -207,6 +207,41 @@ a_loop g w h =
 
 pub refuses_loop : (b : Book) (m limit : ℕ) (g w : Line) → all_true (offer_tests b m limit (g ∷ []) (w ∷ [])) ≡ true → loops g w ≡ true → Calls b (offer m limit (g ∷ []) (w ∷ [])) (refused (number Loop)) b
 refuses_loop b m limit g w h k = (Err Loop, record { refused = above_loop b m limit (g ∷ []) (w ∷ []) h (Some 8) ((λ p. refl), λ f. absurd (f (a_loop g w k))); outcome = refl }, refl)
+
+-- limits and prices out of bounds
+
+abbrev pub place_tests : Book → ℕ → List Line → List Line → List Bool
+place_tests b m give get = ltb m (length b.members) ∷ ltb (length b.offers) 64 ∷ leb (line_count b.offers + (length give + length get)) 256 ∷ all_pass (λ l. ltb l.item (length b.items)) give ∷ all_pass (λ l. ltb l.item (length b.items)) get ∷ []
+
+-- no line of a side that passes has the property
+side_lacks : (t : Line → Bool) (P : Line → Type 0) → ((l : Line) → t l ≡ true → P l → ⊥) → (ls : List Line) → all_pass t ls ≡ true → Any P ls → ⊥
+side_lacks t P f ls h = no_any P ls (All-weaker (λ l. t l ≡ true) (λ l. P l → ⊥) f ls (each_passes t ls h))
+
+-- where a limit is out, that is the first row that holds
+module _ (b : Book) (m limit : ℕ) (give get : List Line) (h : all_true (place_tests b m give get) ≡ true) where
+  in_place : EachTrue (place_tests b m give get)
+  in_place = each_true (place_tests b m give get) h
+
+  not_unknown : (length b.members ≤ m) ⊎ EitherSide (λ l. length b.items ≤ l.item) give get → ⊥
+  not_unknown =
+      let lacks = side_lacks (λ l. ltb l.item (length b.items)) (λ l. length b.items ≤ l.item) (λ l k. not_below (length b.items) l.item k) in
+      neither (not_below (length b.members) m in_place.0) (neither (lacks give in_place.1.1.1.0) (lacks get in_place.1.1.1.1.0))
+
+  not_full : (64 ≤ length b.offers) ⊎ (256 < line_count b.offers + (length give + length get)) → ⊥
+  not_full = neither (not_below 64 (length b.offers) in_place.1.0) (not_over 256 (line_count b.offers + (length give + length get)) in_place.1.1.0)
+
+  pub refuses_limit : Out limit ⊎ EitherSide (λ l. Out l.limit) give get → Calls b (offer m limit give get) (refused (number Bounds)) b
+  refuses_limit out = (Err Bounds, record { refused = ((λ p. absurd (not_unknown p)), λ _. ((λ p. absurd (not_full p)), λ _. ((λ _. refl), λ f. absurd (f out)))); outcome = refl }, refl)
+
+  pub refuses_price : is_limit limit ≡ true → all_pass (λ l. is_limit l.limit) give ≡ true → all_pass (λ l. is_limit l.limit) get ≡ true → EitherSide (λ l. 1000000 < l.price) give get → Calls b (offer m limit give get) (refused (number Price)) b
+  refuses_price k g w out =
+      let lacks = side_lacks (λ l. is_limit l.limit) (λ l. Out l.limit) (λ l i. limit_in l.limit i) in
+      let in_bounds : Out limit ⊎ EitherSide (λ l. Out l.limit) give get → ⊥ = neither (limit_in limit k) (neither (lacks give g) (lacks get w)) in
+      (Err Price, record { refused = ((λ p. absurd (not_unknown p)), λ _. ((λ p. absurd (not_full p)), λ _. ((λ p. absurd (in_bounds p)), λ _. ((λ _. refl), λ f. absurd (f out))))); outcome = refl }, refl)
+
+-- a side whose only line has the property
+pub only : (P : Line → Type 0) (l : Line) → P l → Any P (l ∷ [])
+only P l p = (0, omega arith, λ d. p)
 
 -- roads
 

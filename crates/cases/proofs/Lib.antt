@@ -8,5 +8,7 @@ pub mod Tests
 pub mod Cycles
 pub mod Rounds
 pub mod Records
+pub mod Cuts
 pub mod Cleared
+pub mod Edges
 pub mod Texts

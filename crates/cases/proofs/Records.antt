@@ -17,7 +17,7 @@ use Rattle.book.specs.declared.line.Line.{Line}
 use Rattle.book.proofs.Best.{allowed_is_circulation_lem}
 use Rattle.layout.specs.Records.{Kind, parts, Contents, book_of, allotted, level_size, FairLevel, FairAllotment, contents_of}
 use Rattle.layout.specs.Render.{render}
-use Rattle.layout.specs.Runs.{Reads}
+use Rattle.layout.specs.Runs.{Reads, Refused}
 use Rattle.layout.proofs.Lines.{answer_once}
 use Rattle.layout.proofs.Once.{one_outcome}
 use Rattle.layout.proofs.Recorded.{all_recorded}
@@ -85,7 +85,7 @@ at_worth {text} {worth} {offers} h = record { some = h.some; every = λ r c. les
     less (Err d) h = h
 
 -- contents that fail
-pub failing_with : (text : List ℕ) (x : Contents) (e : Refusal) (n : ℕ) → Reads text x → First (failing x) (Some (number e)) → number e ≡ n → Failing text n
+pub failing_with : (text : List ℕ) (x : Contents) (e : Refusal) (n : ℕ) → Reads text x → First (failing x) (Some (number e)) → number e ≡ n → Failing text n 0
 failing_with text x e n reads f is = record { some = (Err (record { refusal = e; line = 0 }), inr (record { contents = x; reads = reads; first = f; line = refl })); every = every }
   where
     every : (r : Result Passed Fault) → Checks text r → MatchResult r (λ _. ⊥) (λ d. (number d.refusal ≡ n) × (d.line ≡ 0))
@@ -95,6 +95,15 @@ failing_with text x e n reads f is = record { some = (Err (record { refusal = e;
 -- as many units on each line
 abbrev pub all : ℕ → Allotment
 all units k = record { give = λ t. units; get = λ t. units }
+
+-- a text that is refused in reading
+pub refused_with : (text : List ℕ) (e : Refusal) (line n l : ℕ) → Refused text (number e) line → number e ≡ n → line ≡ l → Failing text n l
+refused_with text e line n l f is at = record { some = (Err (record { refusal = e; line = line }), inl f); every = every }
+  where
+    every : (r : Result Passed Fault) → Checks text r → MatchResult r (λ _. ⊥) (λ d. (number d.refusal ≡ n) × (d.line ≡ l))
+    every (Ok p) (x, passes, answered) = one_outcome.not_both text x (number e) line passes.reads f
+    every (Err d) (inl h) = let o = one_outcome.one_refusal text (number d.refusal) (number e) d.line line h f in (o.0 ∙ is, o.1 ∙ at)
+    every (Err d) (inr h) = absurd (one_outcome.not_both text h.contents (number e) line h.reads f)
 
 -- at most 1,000 units on each line
 abbrev units_pass : List Line → (ℕ → ℕ) → Bool

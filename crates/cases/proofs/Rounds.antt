@@ -1,11 +1,11 @@
 -- The rounds and the haul table of the worked cases, as their calls build them.
-use Rattle.std.proofs.Common.{◌≡◌, ℕ, true, leb, List, [], ◌∷◌, ◌++◌, pos, negsuc, codes, Ok, refl}
+use Rattle.std.proofs.Common.{◌<◌, ◌⊎◌, ◌≡◌, ℕ, true, leb, List, [], ◌∷◌, ◌++◌, pos, negsuc, codes, Ok, refl}
 use Rattle.worth.specs.Kinds.{Ops}
 use Rattle.worth.specs.Money.{money}
 use Rattle.worth.specs.Integers.{money_laws}
 use Rattle.flow.specs.declared.arc.Arc.{Arc}
 use Rattle.tables.specs.Refusals.{number}
-use Rattle.tables.specs.declared.refusal.Refusal.TheVariants.{Loop}
+use Rattle.tables.specs.declared.refusal.Refusal.TheVariants.{Bounds, Price, Loop}
 use Rattle.flow.specs.Arcs as arcs
 use Rattle.network.specs.Networks.{Net}
 use Rattle.search.specs.Uses.{Use, begun}
@@ -14,6 +14,8 @@ use Rattle.book.specs.Books as books
 use Rattle.book.specs.Arcs.{net_of}
 use Rattle.book.specs.declared.holding.Holding.{Holding}
 use Rattle.book.proofs.Sizes.{network_is_sound_lem}
+use Rattle.book.specs.declared.line.Line.{Line}
+use Rattle.terms.specs.Lines.{Out, EitherSide}
 use Rattle.round.specs.Rounds.{fresh}
 use Rattle.round.specs.Offering.{made}
 use Rattle.round.specs.Uses.{Accepted, an_item, a_member, a_holding, an_offer, noted, Opened}
@@ -26,9 +28,9 @@ use Rattle.cases.specs.Calls.{Answer, numbered, done, refused, Run, stopped, wen
 use Rattle.cases.specs.Chain.{line, chain, chain_answers}
 use Rattle.cases.specs.Resale.{resale, resale_answers}
 use Rattle.cases.specs.Market.{market, market_answers}
-use Rattle.cases.specs.Cases.{two_roads, cash_for_cash}
+use Rattle.cases.specs.Cases.{two_roads, cash_for_cash, offer_with}
 use Rattle.cases.proofs.Calls.{run_on}
-use Rattle.cases.proofs.Building.{takes_item, takes_member, takes_holding, takes_offer, refuses_loop, roaded, takes_road}
+use Rattle.cases.proofs.Building.{takes_item, takes_member, takes_holding, takes_offer, refuses_loop, refuses_limit, refuses_price, place_tests, all_true, all_pass, is_limit, roaded, takes_road}
 use Rattle.cases.proofs.Flown.{still}
 
 -- what calls build is sound
@@ -163,7 +165,7 @@ market_run =
 
 -- cash on both sides
 
-abbrev north : Book
+abbrev pub north : Book
 north = record { items = codes "cash" ∷ []; members = codes "north" ∷ []; holdings = []; offers = [] }
 
 pub loop_run : Run Calls fresh (cash_for_cash 20 40) (numbered 0 ∷ refused (number Loop) ∷ []) north
@@ -177,6 +179,26 @@ same_run = went (takes_member _ (codes "north") refl) (went (takes_offer north 0
 
 pub lower_run : Run Calls fresh (cash_for_cash 40 20) (numbered 0 ∷ numbered 0 ∷ []) (cash_offered 40 20)
 lower_run = went (takes_member _ (codes "north") refl) (went (takes_offer north 0 5 (line 0 5 40 ∷ []) (line 0 5 20 ∷ []) refl refl) stopped)
+
+-- limits and prices at their bounds
+
+abbrev one_offer : ℕ → Line → Line → Book
+one_offer limit give get = record { items = codes "cash" ∷ []; members = codes "north" ∷ []; holdings = []; offers = made 0 limit (give ∷ []) (get ∷ []) ∷ [] }
+
+pub accepted_run : (limit : ℕ) (give get : Line) → Calls north (offer 0 limit (give ∷ []) (get ∷ [])) (numbered 0) (one_offer limit give get) → Run Calls fresh (offer_with limit give get) (numbered 0 ∷ numbered 0 ∷ []) (one_offer limit give get)
+accepted_run limit give get c = went (takes_member _ (codes "north") refl) (went c stopped)
+
+pub highest_run : Run Calls fresh (offer_with 1000 (line 0 1000 1000000) (line 0 1000 1000000)) (numbered 0 ∷ numbered 0 ∷ []) (one_offer 1000 (line 0 1000 1000000) (line 0 1000 1000000))
+highest_run = accepted_run 1000 (line 0 1000 1000000) (line 0 1000 1000000) (takes_offer north 0 1000 (line 0 1000 1000000 ∷ []) (line 0 1000 1000000 ∷ []) refl refl)
+
+pub lowest_run : Run Calls fresh (offer_with 1 (line 0 1 0) (line 0 1 0)) (numbered 0 ∷ numbered 0 ∷ []) (one_offer 1 (line 0 1 0) (line 0 1 0))
+lowest_run = accepted_run 1 (line 0 1 0) (line 0 1 0) (takes_offer north 0 1 (line 0 1 0 ∷ []) (line 0 1 0 ∷ []) refl refl)
+
+pub limit_run : (limit : ℕ) (give get : Line) → all_true (place_tests north 0 (give ∷ []) (get ∷ [])) ≡ true → Out limit ⊎ EitherSide (λ l. Out l.limit) (give ∷ []) (get ∷ []) → Run Calls fresh (offer_with limit give get) (numbered 0 ∷ refused (number Bounds) ∷ []) north
+limit_run limit give get h out = went (takes_member _ (codes "north") refl) (went (refuses_limit north 0 limit (give ∷ []) (get ∷ []) h out) stopped)
+
+pub price_run : (give get : Line) → all_true (place_tests north 0 (give ∷ []) (get ∷ [])) ≡ true → all_pass (λ l. is_limit l.limit) (give ∷ []) ≡ true → all_pass (λ l. is_limit l.limit) (get ∷ []) ≡ true → EitherSide (λ l. 1000000 < l.price) (give ∷ []) (get ∷ []) → Run Calls fresh (offer_with 5 give get) (numbered 0 ∷ refused (number Price) ∷ []) north
+price_run give get h g w out = went (takes_member _ (codes "north") refl) (went (refuses_price north 0 5 (give ∷ []) (get ∷ []) h refl g w out) stopped)
 
 -- the two roads
 

@@ -1,8 +1,8 @@
 -- The records of the worked cases.
-use Rattle.std.proofs.Common.{slice_index_or, ◌≡◌, ℕ, Some, None, Ok, Err, Result, MatchResult, length, take, drop, ap, ◌∙◌, subst, inl, inr, ◌<◌, ◌≤◌, List, [], ◌∷◌, ◌++◌, map, ℤ, pos, negsuc, codes, refl, sym, subst₂, true≢false, arith}
+use Rattle.std.proofs.Common.{leb-true, slice_index_or, ◌≡◌, ℕ, Some, None, Ok, Err, Result, MatchResult, length, take, drop, ap, ◌∙◌, subst, inl, inr, ◌<◌, ◌≤◌, List, [], ◌∷◌, ◌++◌, map, ℤ, pos, negsuc, codes, refl, sym, subst₂, true≢false, arith}
 use Rattle.std.proofs.lemmas.Bool.{ltb-true}
 use Rattle.tables.specs.Refusals.{number}
-use Rattle.tables.specs.declared.refusal.Refusal.TheVariants.{Unfit, Rule}
+use Rattle.tables.specs.declared.refusal.Refusal.TheVariants.{Unfit, Layout, Rule}
 use Rattle.worth.specs.Money.{money}
 use Rattle.worth.specs.Weeks.{weeks}
 use Rattle.worth.specs.Lexicographic.{pile}
@@ -44,10 +44,11 @@ use Rattle.record.specs.Files.{Files}
 use Rattle.record.specs.Sheets.{Sheet, Clears, FiledBest, Clearing}
 use Rattle.record.proofs.Passing.{evidence}
 use Rattle.cases.specs.Texts.{Filing, ClearingSheet, PassingAt}
-use Rattle.cases.specs.Chain.{filed_levels, threes, chain_sheet}
+use Rattle.cases.specs.Chain.{filed_levels, threes, chain_sheet, money_lines, cut_text}
+use Rattle.cases.proofs.Cuts.{lacking}
 use Rattle.cases.proofs.Building.{first_none, no_any}
 use Rattle.cases.proofs.Records.{fair_allotment, fair_levels}
-use Rattle.cases.proofs.Records.{record_of, passing, at_worth, failing_with, all, reading, allowed_by, fitted}
+use Rattle.cases.proofs.Records.{refused_with, record_of, passing, at_worth, failing_with, all, reading, allowed_by, fitted}
 use Rattle.cases.proofs.Rounds.{sound, held, two, chain_book, chain_run, cash_run, market_book, market_run}
 
 -- levels by money
@@ -181,7 +182,7 @@ changed_misfit f = true≢false ((f.fits 7 (ltb-true 7 11 refl)).0 (ltb-true 3 4
 changed_reads : Reads (money_text (codes "3") levels_with_79) (chain 3 changed)
 changed_reads = reading (money_text (codes "3") levels_with_79) by_money book (all 3) (levels changed) book_sound refl refl refl refl
 
-pub changed_fails : (n : ℕ) → number Unfit ≡ n → Failing (money_text (codes "3") levels_with_79) n
+pub changed_fails : (n : ℕ) → number Unfit ≡ n → Failing (money_text (codes "3") levels_with_79) n 0
 changed_fails n is = failing_with (money_text (codes "3") levels_with_79) (chain 3 changed) Unfit n changed_reads ((λ h. absurd (h (threes_allowed changed))), λ _. ((λ _. refl), λ h. absurd (h changed_misfit))) is
 
 -- with 2 units on each line: offer 1 has some of its limit left
@@ -195,7 +196,7 @@ twos_allowed = allowed_by book (allotted (chain 2 fitting)) book_sound refl refl
 twos_read : Reads (money_text (codes "2") chain_levels) (chain 2 fitting)
 twos_read = reading (money_text (codes "2") chain_levels) by_money book (all 2) (levels fitting) book_sound refl refl refl refl
 
-pub twos_fail : (n : ℕ) → number Unfit ≡ n → Failing (money_text (codes "2") chain_levels) n
+pub twos_fail : (n : ℕ) → number Unfit ≡ n → Failing (money_text (codes "2") chain_levels) n 0
 twos_fail n is = failing_with (money_text (codes "2") chain_levels) (chain 2 fitting) Unfit n twos_read ((λ h. absurd (h twos_allowed)), λ _. ((λ _. refl), λ h. absurd (h twos_misfit))) is
 
 -- with 4 units on each line: offer 1 has limit 3
@@ -206,8 +207,13 @@ fours_forbidden h = let x : 4 ≤ 3 = h.limits.1.0 in omega arith
 fours_read : Reads (money_text (codes "4") chain_levels) (chain 4 fitting)
 fours_read = reading (money_text (codes "4") chain_levels) by_money book (all 4) (levels fitting) book_sound refl refl refl refl
 
-pub fours_fail : (n : ℕ) → number Rule ≡ n → Failing (money_text (codes "4") chain_levels) n
+pub fours_fail : (n : ℕ) → number Rule ≡ n → Failing (money_text (codes "4") chain_levels) n 0
 fours_fail n is = failing_with (money_text (codes "4") chain_levels) (chain 4 fitting) Rule n fours_read ((λ _. refl), λ h. absurd (h fours_forbidden)) is
+
+-- without its last line
+
+pub cut_fails : (n line : ℕ) → number Layout ≡ n → 35 ≡ line → Failing cut_text n line
+cut_fails n line is at = refused_with cut_text Layout 35 n line (lacking (money_text (codes "3") chain_levels) (chain 3 fitting) chain_reads (take 34 (money_lines (codes "3") chain_levels)) (codes "0") refl refl (leb-true (length cut_text) 32768 refl)) is at
 
 -- with cash held by member 2
 

@@ -1,5 +1,6 @@
 -- The worked cases, with the numbers that come out.
 use Rattle.std.specs.Prelude.{◌≡◌, ℕ, List, [], ◌∷◌, map, ℤ, pos, negsuc, codes, ⊤}
+use Rattle.std.specs.List.{AllByRecursion}
 use Rattle.worth.specs.Money.{money, of_cents}
 use Rattle.worth.specs.Weeks.{weeks, of_count}
 use Rattle.worth.specs.Lexicographic.{pile, pair}
@@ -11,12 +12,13 @@ use Rattle.flow.specs.Arcs.{fresh}
 use Rattle.network.specs.Networks.{value}
 use Rattle.layout.specs.Records.{by_money, by_money_then_weeks}
 use Rattle.layout.specs.Render.{ended}
+use Rattle.book.specs.declared.line.Line.{Line}
 use Rattle.record.specs.declared.passed.OfferResult.{OfferResult}
 use Rattle.record.specs.declared.passed.Total.TheVariants as total
-use Rattle.cases.specs.Calls.{numbered, done, refused, Call, member, hold, offer, Built, Closed, Hauled}
+use Rattle.cases.specs.Calls.{Answer, numbered, done, refused, Call, member, hold, offer, Built, Closed, Hauled}
 use Rattle.cases.specs.Clearing.{Best, RisesOnce, Clears}
 use Rattle.cases.specs.Texts.{RecordOf, Passing, Failing, Filing, ClearingSheet}
-use Rattle.cases.specs.Chain.{line, chain, chain_answers, money_text, chain_levels, filed_levels, threes, raised_levels, levels_with_79, chain_sheet, cash_text, weeks_text}
+use Rattle.cases.specs.Chain.{line, chain, chain_answers, money_text, chain_levels, filed_levels, threes, raised_levels, levels_with_79, cut_text, chain_sheet, cash_text, weeks_text}
 use Rattle.cases.specs.Resale.{resale, resale_answers}
 use Rattle.cases.specs.Market.{market, market_answers, market_text}
 
@@ -40,9 +42,28 @@ empty_text = ended (map codes ("K 1" ∷ "money" ∷ "I 1" ∷ "cash" ∷ "M 0" 
 abbrev pub two_roads : List Arc
 two_roads = fresh 0 1 4 (negsuc 29) 0 ∷ fresh 1 0 3 (pos 50) 0 ∷ []
 
--- an offer with cash on both sides, given and got at these prices
+-- an offer of cash for cash, with its limit and the two lines
+abbrev pub offer_with : ℕ → Line → Line → List Call
+offer_with limit give get = member (codes "north") ∷ offer 0 limit (give ∷ []) (get ∷ []) ∷ []
+
+-- given and got at these prices
 abbrev pub cash_for_cash : ℕ → ℕ → List Call
-cash_for_cash given got = member (codes "north") ∷ offer 0 5 (line 0 5 given ∷ []) (line 0 5 got ∷ []) ∷ []
+cash_for_cash given got = offer_with 5 (line 0 5 given) (line 0 5 got)
+
+-- the offer comes back with this answer
+abbrev pub Offered : List Call → Answer → Type 0
+Offered calls a = Built calls (numbered 0 ∷ a ∷ []) (λ b. ⊤)
+
+-- limits out of bounds: the offer's, that of its give line and that of its get line
+abbrev pub limits_out : List (List Call)
+limits_out =
+    offer_with 0 (line 0 5 40) (line 0 5 40) ∷ offer_with 1001 (line 0 5 40) (line 0 5 40)
+    ∷ offer_with 5 (line 0 0 40) (line 0 5 40) ∷ offer_with 5 (line 0 1001 40) (line 0 5 40)
+    ∷ offer_with 5 (line 0 5 40) (line 0 0 40) ∷ offer_with 5 (line 0 5 40) (line 0 1001 40) ∷ []
+
+-- prices out of bounds
+abbrev pub prices_out : List (List Call)
+prices_out = offer_with 5 (line 0 5 1000001) (line 0 5 40) ∷ offer_with 5 (line 0 5 40) (line 0 5 1000001) ∷ []
 
 -- the numbers that come out: worths and rises in cents, or in cents and weeks, a length in bytes, and the numbers of refusals and of offers
 pub record Numbers : Type 0 where
@@ -71,10 +92,16 @@ pub record Numbers : Type 0 where
   pub refusal_with_79 : ℕ
   pub refusal_of_twos : ℕ
   pub refusal_of_fours : ℕ
+  pub refusal_of_cut : ℕ
+  pub line_of_cut : ℕ
   pub roads_rise : ℕ
   pub refusal_of_loop : ℕ
   pub offer_at_same_price : ℕ
   pub offer_at_lower_price : ℕ
+  pub offer_at_highest : ℕ
+  pub offer_at_lowest : ℕ
+  pub refusal_of_limits : ℕ
+  pub refusal_of_prices : ℕ
 
 -- what comes out
 pub record Cases (x : Numbers) : Type 0 where
@@ -112,12 +139,19 @@ pub record Cases (x : Numbers) : Type 0 where
   pub weeks_passes : Passing weeks_text (total.MoneyThenWeeks (both x.weeks_record)) (comes_to (negsuc 299) 0 ∷ comes_to (pos 90) 3 ∷ comes_to (pos 210) 3 ∷ [])
   pub market_passes : Passing market_text (total.Money (cents x.market_record)) (comes_to (negsuc 3999) 20 ∷ comes_to (pos 3500) 30 ∷ comes_to (negsuc 199) 30 ∷ comes_to (negsuc 4799) 0 ∷ comes_to (pos 1200) 20 ∷ comes_to (pos 5800) 40 ∷ [])
   -- with -79 for -80, with 2 units on each line, and with 4, it fails
-  pub with_79_fails : Failing (money_text (codes "3") levels_with_79) x.refusal_with_79
-  pub twos_fail : Failing (money_text (codes "2") chain_levels) x.refusal_of_twos
-  pub fours_fail : Failing (money_text (codes "4") chain_levels) x.refusal_of_fours
+  pub with_79_fails : Failing (money_text (codes "3") levels_with_79) x.refusal_with_79 0
+  pub twos_fail : Failing (money_text (codes "2") chain_levels) x.refusal_of_twos 0
+  pub fours_fail : Failing (money_text (codes "4") chain_levels) x.refusal_of_fours 0
+  -- without its line 35 it is refused there
+  pub cut_fails : Failing cut_text x.refusal_of_cut x.line_of_cut
   -- the haul table: improve rises once, and clear by as much
   pub roads : Hauled two_roads (numbered 0 ∷ numbered 1 ∷ []) (λ n. RisesOnce money (cents x.roads_rise) n × Clears money (cents x.roads_rise) n)
   -- cash given at a lower price than got is refused, and else accepted
-  pub loop : Built (cash_for_cash 20 40) (numbered 0 ∷ refused x.refusal_of_loop ∷ []) (λ b. ⊤)
-  pub same_price : Built (cash_for_cash 40 40) (numbered 0 ∷ numbered x.offer_at_same_price ∷ []) (λ b. ⊤)
-  pub lower_price : Built (cash_for_cash 40 20) (numbered 0 ∷ numbered x.offer_at_lower_price ∷ []) (λ b. ⊤)
+  pub loop : Offered (cash_for_cash 20 40) (refused x.refusal_of_loop)
+  pub same_price : Offered (cash_for_cash 40 40) (numbered x.offer_at_same_price)
+  pub lower_price : Offered (cash_for_cash 40 20) (numbered x.offer_at_lower_price)
+  -- the highest and the lowest limits and prices are accepted, and those beyond are refused
+  pub highest : Offered (offer_with 1000 (line 0 1000 1000000) (line 0 1000 1000000)) (numbered x.offer_at_highest)
+  pub lowest : Offered (offer_with 1 (line 0 1 0) (line 0 1 0)) (numbered x.offer_at_lowest)
+  pub limits : AllByRecursion (λ calls. Offered calls (refused x.refusal_of_limits)) limits_out
+  pub prices : AllByRecursion (λ calls. Offered calls (refused x.refusal_of_prices)) prices_out

@@ -32,9 +32,9 @@ Passing text worth offers = Check text (λ r. MatchResult r (λ p. (p.worth ≡ 
 abbrev pub PassingAt : List ℕ → Total → Type 0
 PassingAt text worth = Check text (λ r. MatchResult r (λ p. p.worth ≡ worth) (λ _. ⊥))
 
--- the text gets the refusal of this number, and no line is to blame
-abbrev pub Failing : List ℕ → ℕ → Type 0
-Failing text n = Check text (λ r. MatchResult r (λ _. ⊥) (λ f. (number f.refusal ≡ n) × (f.line ≡ 0)))
+-- the text gets the refusal of this number, at this line, or at line 0 where no line is to blame
+abbrev pub Failing : List ℕ → ℕ → ℕ → Type 0
+Failing text n line = Check text (λ r. MatchResult r (λ _. ⊥) (λ f. (number f.refusal ≡ n) × (f.line ≡ line)))
 
 -- on each page that is long enough file can write the record of this book, this allotment and these levels; and however it comes
 -- back, it is not refused, the text is at the start of the page, whose other bytes stay, and n is answered

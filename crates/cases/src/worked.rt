@@ -28,10 +28,16 @@ pub fn cases_stand() -> u8
       refusal_with_79 = 11;
       refusal_of_twos = 11;
       refusal_of_fours = 15;
+      refusal_of_cut = 13;
+      line_of_cut = 35;
       roads_rise = 60;
       refusal_of_loop = 8;
       offer_at_same_price = 0;
       offer_at_lower_price = 0;
+      offer_at_highest = 0;
+      offer_at_lowest = 0;
+      refusal_of_limits = 3;
+      refusal_of_prices = 4;
     }) }
 {
     0

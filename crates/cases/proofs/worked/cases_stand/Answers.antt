@@ -2,8 +2,9 @@ use Rattle.std.specs.Prelude.{refl}
 use Rattle.cases.specs.Calls.{stopped}
 use Rattle.cases.proofs.Calls.{built, closed, hauled}
 use Rattle.cases.proofs.Cleared.{empty_best, empty_best_with_weeks, chain_rises, cash_clears, clears_at_70, clears_at_69, resale_clears, clears_with_none, clears_with_one, market_clears, roads_rise}
-use Rattle.cases.proofs.Rounds.{chain_run, cash_run, resale_run, quay_run, market_run, loop_run, same_run, lower_run, road_run}
-use Rattle.cases.proofs.Texts.{empty_is, empty_passes, chain_is, chain_passes, chain_filed, sheet_cleared, raised_passes, changed_fails, twos_fail, fours_fail, cash_is, cash_passes, weeks_is, weeks_pass, market_is, market_passes}
+use Rattle.cases.proofs.Rounds.{chain_run, cash_run, resale_run, quay_run, market_run, loop_run, same_run, lower_run, highest_run, lowest_run, road_run}
+use Rattle.cases.proofs.Edges.{limits_refused, prices_refused}
+use Rattle.cases.proofs.Texts.{empty_is, empty_passes, chain_is, chain_passes, chain_filed, sheet_cleared, raised_passes, changed_fails, twos_fail, fours_fail, cut_fails, cash_is, cash_passes, weeks_is, weeks_pass, market_is, market_passes}
 use Rattle.cases.proofs.worked.cases_stand.Goals as goal
 
 pub returns : goal.returns
@@ -35,8 +36,13 @@ returns c = record {
   with_79_fails = changed_fails _ refl;
   twos_fail = twos_fail _ refl;
   fours_fail = fours_fail _ refl;
+  cut_fails = cut_fails _ _ refl refl;
   roads = hauled road_run _ (roads_rise _ refl refl refl);
   loop = built loop_run _ tt;
   same_price = built same_run _ tt;
   lower_price = built lower_run _ tt;
+  highest = built highest_run _ tt;
+  lowest = built lowest_run _ tt;
+  limits = limits_refused _ refl;
+  prices = prices_refused _ refl;
 }

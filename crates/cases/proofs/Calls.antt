@@ -1,5 +1,6 @@
 -- Calls go in one way, and tests that compute tell which.
-use Rattle.std.proofs.Common.{◌≡◌, ℕ, ◌<◌, List, [], ◌∷◌, ◌++◌, length, Ok, Err, Result, Some, None, Option, MatchResult, sym, refl, ap, ap₂, ◌∙◌, subst, arith}
+use Rattle.std.proofs.Common.{◌≡◌, ℕ, ◌<◌, List, [], ◌∷◌, ◌++◌, length, Ok, Err, Result, Some, None, Option, MatchResult, sym, refl, ap, ap₂, ◌∙◌, subst}
+use Rattle.std.proofs.lemmas.Option.{none-some}
 use Rattle.tables.specs.Refusals.{Row, when, First, refusal, number}
 use Rattle.tables.specs.declared.refusal.Refusal.{Refusal}
 use Rattle.layout.proofs.Lines.{answer_once}
@@ -17,17 +18,14 @@ use Rattle.cases.specs.Calls.{Answer, numbered, refused, with_number, with_nothi
 
 -- one call does one thing
 
-none≢some : (n : ℕ) → ◌≡◌ {A = Option ℕ} None (Some n) → ⊥
-none≢some n e = let z : ◌≡◌ {A = ℕ} 0 1 = cc in omega arith
-
-some_same : (m n : ℕ) → ◌≡◌ {A = Option ℕ} (Some m) (Some n) → m ≡ n
+pub some_same : (m n : ℕ) → ◌≡◌ {A = Option ℕ} (Some m) (Some n) → m ≡ n
 some_same m n e = cc
 
 module _ {B X : Type 0} (rows : List Row) (before made : B) (told : Result X Refusal → Answer) (failed : (e : Refusal) → told (Err e) ≡ refused (number e)) (Made : X → Type 0) (same : (k l : X) → Made k → Made l → told (Ok k) ≡ told (Ok l)) where
   once : (r q : Result X Refusal) (t u : B) → First rows (refusal r) → First rows (refusal q) → MatchResult r (λ k. Made k × (t ≡ made)) (λ _. t ≡ before) → MatchResult q (λ k. Made k × (u ≡ made)) (λ _. u ≡ before) → (told r ≡ told q) × (t ≡ u)
   once (Ok k) (Ok l) t u f g p w = (same k l p.0 w.0, p.1 ∙ sym w.1)
-  once (Ok k) (Err e) t u f g p w = absurd (none≢some (number e) (answer_once rows None (Some (number e)) f g))
-  once (Err e) (Ok k) t u f g p w = absurd (none≢some (number e) (sym (answer_once rows (Some (number e)) None f g)))
+  once (Ok k) (Err e) t u f g p w = absurd (none-some (number e) (answer_once rows None (Some (number e)) f g))
+  once (Err e) (Ok k) t u f g p w = absurd (none-some (number e) (sym (answer_once rows (Some (number e)) None f g)))
   once (Err d) (Err e) t u f g p w = (failed d ∙ ap refused (some_same (number d) (number e) (answer_once rows (Some (number d)) (Some (number e)) f g)) ∙ sym (failed e), p ∙ sym w)
 
 numbered_once : {B : Type 0} (rows : List Row) (before made : B) (n : ℕ) (r q : Result ℕ Refusal) (t u : B) → First rows (refusal r) → First rows (refusal q) → MatchResult r (λ k. (k ≡ n) × (t ≡ made)) (λ _. t ≡ before) → MatchResult q (λ k. (k ≡ n) × (u ≡ made)) (λ _. u ≡ before) → (with_number r ≡ with_number q) × (t ≡ u)

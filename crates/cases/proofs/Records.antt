@@ -1,7 +1,8 @@
 -- Records, by what they hold: that they read, and what check comes to on them.
-use Rattle.std.proofs.Common.{◌≡◌, ℕ, suc, ◌≤◌, Bool, true, ◌&&◌, eqb, leb, List, [], ◌∷◌, length, ℤ, Ok, Err, Result, Some, None, Option, MatchResult, sym, refl, ap, ◌∙◌, subst, inl, inr, arith}
+use Rattle.std.proofs.Common.{◌≡◌, ℕ, suc, ◌≤◌, Bool, true, ◌&&◌, eqb, leb, List, [], ◌∷◌, length, ℤ, Ok, Err, Result, Some, None, Option, MatchResult, sym, refl, ap, ◌∙◌, subst, inl, inr}
 use Rattle.std.proofs.lemmas.Bool.{and_parts, leb-true, eqb-true}
 use Rattle.std.specs.List.{AllByRecursion}
+use Rattle.std.proofs.lemmas.Option.{none-some}
 use Rattle.tables.specs.Refusals.{First, number}
 use Rattle.tables.specs.declared.refusal.Refusal.{Refusal}
 use Rattle.text.specs.declared.fault.Fault.{Fault}
@@ -28,6 +29,7 @@ use Rattle.record.specs.declared.passed.Passed.{Passed}
 use Rattle.record.specs.declared.passed.OfferResult.{OfferResult}
 use Rattle.record.specs.declared.passed.Total.{Total}
 use Rattle.cases.specs.Texts.{RecordOf, Passing, PassingAt, Failing}
+use Rattle.cases.proofs.Calls.{some_same}
 use Rattle.cases.proofs.Tests.{all_below, below, balanced, circulates, inside, within, left_fits, flow_fits, fits}
 
 -- the number that check refuses with, or none, and line 0
@@ -55,12 +57,6 @@ module _ (text : List ℕ) (x : Contents) (reads : Reads text x) where
       let a : Answered x p = subst (λ z. Answered z p) e answered in
       (a.worth, a.offers)
 
-none≢some : (n : ℕ) → ◌≡◌ {A = Option ℕ} None (Some n) → ⊥
-none≢some n e = let z : ◌≡◌ {A = ℕ} 0 1 = cc in omega arith
-
-some_same : (m n : ℕ) → ◌≡◌ {A = Option ℕ} (Some m) (Some n) → m ≡ n
-some_same m n e = cc
-
 -- the text is a record of the contents' book
 pub record_of : (text : List ℕ) (x : Contents) → Reads text x → RecordOf text x.kind (book_of x)
 record_of text x reads = record { some = (x, reads); every = λ y r. let e = one_outcome.one_reading text y x r reads in (ap (λ z. z.kind) e, ap book_of e) }
@@ -74,7 +70,7 @@ passing text x worth offers reads allowed fit w os = record { some = (Ok p, (x, 
 
     every : (r : Result Passed Fault) → Checks text r → MatchResult r (λ p. (p.worth ≡ worth) × (p.offers ≡ offers)) (λ _. ⊥)
     every (Ok p) h = let a = answered_once text x reads p h in (a.0 ∙ w, a.1 ∙ os)
-    every (Err d) h = none≢some (number d.refusal) (sym (one_answer text x reads None ((λ f. absurd (f allowed)), λ _. ((λ f. absurd (f fit)), λ _. refl)) (Err d) h))
+    every (Err d) h = none-some (number d.refusal) (sym (one_answer text x reads None ((λ f. absurd (f allowed)), λ _. ((λ f. absurd (f fit)), λ _. refl)) (Err d) h))
 
 -- whatever the offers come to
 pub at_worth : {text : List ℕ} {worth : Total} {offers : List OfferResult} → Passing text worth offers → PassingAt text worth
@@ -89,7 +85,7 @@ pub failing_with : (text : List ℕ) (x : Contents) (e : Refusal) (n : ℕ) → 
 failing_with text x e n reads f is = record { some = (Err (record { refusal = e; line = 0 }), inr (record { contents = x; reads = reads; first = f; line = refl })); every = every }
   where
     every : (r : Result Passed Fault) → Checks text r → MatchResult r (λ _. ⊥) (λ d. (number d.refusal ≡ n) × (d.line ≡ 0))
-    every (Ok p) h = none≢some (number e) (one_answer text x reads (Some (number e)) f (Ok p) h)
+    every (Ok p) h = none-some (number e) (one_answer text x reads (Some (number e)) f (Ok p) h)
     every (Err d) h = (some_same (number d.refusal) (number e) (one_answer text x reads (Some (number e)) f (Err d) h) ∙ is, no_line text x reads d h)
 
 -- as many units on each line

@@ -105,18 +105,18 @@ pub record Numbers : Type 0 where
 
 -- what comes out
 pub record Cases (x : Numbers) : Type 0 where
-  -- the empty round: improve answers best, and nothing is worth anything
+  -- the empty round by money, and by money then weeks: improve answers best, and its network is worth nothing
   pub empty_round : Closed [] [] (λ n. Best money n × (value money n ≡ cents x.empty_worth))
   pub empty_round_with_weeks : Closed [] [] (λ n. Best (pile money weeks) n × (value (pile money weeks) n ≡ both x.empty_worth_with_weeks))
-  -- the chain round by money: improve rises once, and clear by as much
+  -- the chain round by money: improve rises and then answers best, and clear rises by as much
   pub chain_round : Closed (chain [] 160) (chain_answers []) (λ n. RisesOnce money (cents x.chain_rise) n × Clears money (cents x.chain_rise) n)
-  -- with 2 units of cash held by member 2, and with 0 units
+  -- by money with a cash holding of member 2, of 2 units and of 0 units
   pub two_held : Closed (chain (hold 2 0 2 ∷ []) 160) (chain_answers (done ∷ [])) (Clears money (cents x.rise_with_two))
   pub none_held : Closed (chain (hold 2 0 0 ∷ []) 160) (chain_answers (done ∷ [])) (Clears money (cents x.rise_with_none))
-  -- with another last price, by money and by money then weeks
+  -- with the last price 70 and 69, by money and by money then weeks
   pub at_70 : Closed (chain [] 70) (chain_answers []) (λ n. Clears money (cents x.rise_at_70) n × Clears (pile money weeks) (both x.rise_at_70_with_weeks) n)
   pub at_69 : Closed (chain [] 69) (chain_answers []) (λ n. Clears money (cents x.rise_at_69) n × Clears (pile money weeks) (both x.rise_at_69_with_weeks) n)
-  -- the resale round, where quay has no holding, one of 0 units and one of 1 unit
+  -- the resale round by money, where quay has no holding of the week, one of 0 units and one of 1 unit
   pub resale_without : Closed (resale []) (resale_answers []) (Clears money (cents x.resale_rise))
   pub resale_with_none : Closed (resale (hold 1 1 0 ∷ [])) (resale_answers (done ∷ [])) (Clears money (cents x.resale_rise_with_none))
   pub resale_with_one : Closed (resale (hold 1 1 1 ∷ [])) (resale_answers (done ∷ [])) (Clears money (cents x.resale_rise_with_one))
@@ -144,7 +144,7 @@ pub record Cases (x : Numbers) : Type 0 where
   pub fours_fail : Failing (money_text (codes "4") chain_levels) x.refusal_of_fours 0
   -- without its line 35 it is refused there
   pub cut_fails : Failing cut_text x.refusal_of_cut x.line_of_cut
-  -- the haul table: improve rises once, and clear by as much
+  -- the haul table by money: improve rises and then answers best, and clear rises by as much
   pub roads : Hauled two_roads (numbered 0 ∷ numbered 1 ∷ []) (λ n. RisesOnce money (cents x.roads_rise) n × Clears money (cents x.roads_rise) n)
   -- cash given at a lower price than got is refused, and else accepted
   pub loop : Offered (cash_for_cash 20 40) (refused x.refusal_of_loop)

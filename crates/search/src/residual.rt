@@ -37,7 +37,7 @@ impl<'a> Residual<'a> {
         }
     }
 
-    // The node that a step leads to. Through `tail` of the step turned round it would be no shorter.
+    // The node that a step leads to. Through `tail` it would need a function that turns a step round, for this one place.
     pub(crate) fn head(self, step: Step) -> usize
         ensures { result ≡ head_of self.entry.arcs.now step }
     {

@@ -17,7 +17,7 @@ use terms::holdings::find_holding;
 fn get_arc(outside: u32, l: Line) -> Arc
     ensures { result ≡ get_arc outside l 0 }
 {
-    let weeks = if l.is_cash() { 0 } else { 1 };
+    let weeks = u32::from(!l.is_cash());
     Arc::new(outside, l.item, l.limit, i64::from(l.price), weeks)
 }
 

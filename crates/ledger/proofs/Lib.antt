@@ -1,4 +1,0 @@
-pub mod Sums
-pub mod Payoffs
-pub mod Spelt
-pub mod Lines

@@ -1,4 +1,0 @@
-pub mod Trades
-pub mod Ledgers
-pub mod Spellings
-pub mod Readings

@@ -7,7 +7,7 @@ pub struct Parts<'a> {
     pub after: &'a [u8],
 }
 
-// The bytes cut at the first separator, or nothing where there is none.
+// The bytes cut at the first separator, or nothing where there is none. std has a `split_once` of a text, which these bytes need not be, and none of a slice.
 pub fn cut<'a>(bytes: &'a [u8], separator: u8) -> Option<Parts<'a>>
     ensures { Cut separator bytes.now result }
 {

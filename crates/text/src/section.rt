@@ -23,21 +23,21 @@ impl Section {
     }
 }
 
-// The section that the letter opens. The letters stand here once more, so that a head's letter picks the case as it stands in the layout:
-// a match on `b if b == Section::Kinds as u8` would be six guards.
+// The section that the letter opens. The letters stand here once more, as characters, so that a head's letter picks the case as it stands in
+// the layout: a match on `b if b == Section::Kinds as u8` would be six guards.
 impl TryFrom<u8> for Section {
     type Error = Refusal;
 
     ghost try_from_gives = { Opened };
 
     fn try_from(letter: u8) -> Result<Section, Refusal> {
-        match letter {
-            b'K' => Ok(Section::Kinds),
-            b'I' => Ok(Section::Items),
-            b'M' => Ok(Section::Members),
-            b'H' => Ok(Section::Holdings),
-            b'O' => Ok(Section::Offers),
-            b'L' => Ok(Section::Levels),
+        match char::from(letter) {
+            'K' => Ok(Section::Kinds),
+            'I' => Ok(Section::Items),
+            'M' => Ok(Section::Members),
+            'H' => Ok(Section::Holdings),
+            'O' => Ok(Section::Offers),
+            'L' => Ok(Section::Levels),
             _ => Err(Refusal::Layout),
         }
     }

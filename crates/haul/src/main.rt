@@ -10,12 +10,8 @@ use reading::add_road;
 use std::io;
 use tables::refusal::Refusal;
 use worth::kind::Worth;
-use worth::lexicographic::Lexicographic;
-use worth::money::Money;
-use worth::weeks::Weeks;
+use worth::money_then_weeks::MoneyThenWeeks;
 use writing::Line;
-
-type MoneyThenWeeks = Lexicographic<Money, Weeks>;
 
 // The flows, the worth and the levels.
 fn print_table(

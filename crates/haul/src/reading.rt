@@ -6,7 +6,7 @@ use haul_table::table::HaulTable;
 use tables::refusal::Refusal;
 use worth::kind::Worth;
 
-// The number that a word writes, with a minus for one below 0.
+// The number that a word writes, with a minus for one below 0. A plus and zeros in front are taken here, which a row of a record may not have.
 fn number(word: &str) -> Option<i64>
     ensures { MatchOption result ((z : ℤ) → Number word.now z → ⊥) (λ z. Number word.now z) }
 {

@@ -4,7 +4,7 @@ ghost use Rattle.haul.specs.Lines.{spelled};
 use std::fmt;
 use tables::refusal::Refusal;
 
-// A line of the output.
+// A line of the output. A refusal stands with its line, 0 for none; it is no `Fault`, which is a refusal of a text in the layout of records.
 #[derive(Clone, Copy)]
 pub enum Line {
     Leg(usize, u32),

@@ -9,7 +9,8 @@ mod as_network;
 mod calls;
 
 // A network of 64 nodes and at most 256 arcs, made for one kind of worth.
-// It has no model: the laws of a network speak of every value of its type, so its bounds stand in the value itself.
+// It has no model: the laws of a network speak of every value of its type, so its bounds stand in the value itself. `few` is what the
+// table of arcs keeps, which from outside it only a call would show.
 #[derive(Drop)]
 pub struct HaulTable<W> {
     arcs: Table<Arc, 256>,

@@ -11,7 +11,7 @@ pub struct Trade {
     pub side: Side,
     pub price: u32,
     pub units: u32,
-    // a yes or no that counts as so many weeks a unit, and no kind of worth in disguise
+    // the text says week or cash, and a unit counts 1 week or none by it: an enum would be turned into this at once
     pub is_week: bool,
 }
 

@@ -1,33 +1,27 @@
 // Builds the example market by the calls of a round, clears it by money, and prints what each offer pays and gets.
 #![tactic(auto)]
 
-use anyhow::anyhow;
 use book::line::Line;
 use round::closed_round::ClosedRound;
 use round::open_round::OpenRound;
 use tables::refusal::Refusal;
+use worth::kind::Worth;
 use worth::money::Money;
 
 #[cfg(test)]
 mod tests;
 
 fn main(rt: HostRuntime) -> anyhow::Result<()> {
-    match clear_market() {
-        Ok(round) => print_round(&rt, &round),
-        Err(refusal) => {
-            eprintln!(rt; "refused {refusal}")?;
-            Err(anyhow!("the market was refused"))
-        }
-    }
+    let round = clear_market()?;
+    print_round(&rt, &round)
 }
 
 // A line for each offer, its payoff and its weeks got, and one for the worth.
 fn print_round(rt: &HostRuntime, round: &ClosedRound<Money>) -> anyhow::Result<()> {
     // an offer's payoff is asked for by number
     for offer in 0..round.terms().offer_count() {
-        if let Ok((payoff, weeks)) = round.payoff(offer) {
-            println!(rt; "offer {offer} {payoff} {weeks}")?;
-        }
+        let (payoff, weeks) = round.payoff(offer)?;
+        println!(rt; "offer {offer} {payoff} {weeks}")?;
     }
     let money = round.worth().cents;
     println!(rt; "money {money}")?;
@@ -41,7 +35,7 @@ fn clear_market() -> Result<ClosedRound<Money>, Refusal> {
     offer_half(&mut open)?;
     offer_rest(&mut open)?;
     let mut round: ClosedRound<Money> = open.close();
-    let mut work = [Money { cents: 0 }; 272];
+    let mut work = [Money::none(); 272];
     let _ = round.clear(&mut work)?;
     Ok(round)
 }

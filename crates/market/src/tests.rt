@@ -41,6 +41,7 @@ fn cash_may_not_gain_by_going_round(rt: HostRuntime) {
     assert_eq!(rt; even, Ok(0));
 }
 
+// As the market itself is cleared, but for any round, and with no refusal to hand on.
 fn cleared(open: OpenRound) -> ClosedRound<Money> {
     let mut round: ClosedRound<Money> = open.close();
     let mut work = [Money { cents: 0 }; 272];

@@ -6,8 +6,8 @@ use super::readable::Network;
 use flow::arc::Arc;
 use worth::kind::Worth;
 
-// Whether each potential has a size of at most 1,000,000. The record's test of its levels asks the other way round,
-// whether some worth is too large; each is one chain, so there is nothing to share.
+// Whether each potential has a size of at most 1,000,000. `file` of `record` asks whether some level is larger: one chain too, whose
+// contract says that there is one, as its refusal does. By way of this one it would want a lemma more.
 fn are_small<W: Worth>(potentials: &[W]) -> bool
     ensures { Decides result ((v : ℕ) → v < length potentials.now → W.ops.size (potential W.ops potentials.now v) ≤ 1000000) }
 {

@@ -11,7 +11,7 @@ pub trait Network {
     // The network that a value stands for.
     ghost net: { Self → Net };
 
-    // How many nodes and how many arcs there are: a pair, since both are asked for at once and taken apart at once.
+    // How many nodes and how many arcs there are: a pair, since the exchange's question for the counts answers both.
     fn counts(&self) -> (u32, u32)
         ensures { (result.0 ≡ (net self.now).nodes) × (result.1 ≡ length (net self.now).arcs) };
 

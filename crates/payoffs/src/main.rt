@@ -4,9 +4,7 @@
 use ledger::ledger::Ledger;
 use ledger::reading::read_ledger;
 use std::io::Read;
-use worth::lexicographic::Lexicographic;
-use worth::money::Money;
-use worth::weeks::Weeks;
+use worth::money_then_weeks::MoneyThenWeeks;
 
 #[cfg(test)]
 mod tests;
@@ -23,13 +21,14 @@ fn run(rt: &HostRuntime) -> anyhow::Result<()> {
 
 // A line for each offer that trades, in order of number, and a line for each kind of worth.
 fn print_payoffs(rt: &HostRuntime, ledger: &Ledger) -> anyhow::Result<()> {
+    // a ledger is asked by an offer's number
     for offer in (0..64).filter(|offer| ledger.mentions(*offer)) {
         let (payoff, weeks) = ledger.payoff(offer);
         println!(rt; "offer {offer} {payoff} {weeks}")?;
     }
     let money = ledger.money();
     println!(rt; "money {money}")?;
-    let both: Lexicographic<Money, Weeks> = ledger.worth();
+    let both: MoneyThenWeeks = ledger.worth();
     let cents = both.first.cents;
     let weeks = both.second.count;
     println!(rt; "money-then-weeks {cents} {weeks}")?;

@@ -22,9 +22,8 @@ use tables::refusal::Refusal;
 use tables::table::Table;
 use text::fault::Fault;
 use worth::kind::Worth;
-use worth::lexicographic::Lexicographic;
 use worth::money::Money;
-use worth::weeks::Weeks;
+use worth::money_then_weeks::MoneyThenWeeks;
 
 // The worths that levels stand for, of which a record has at most one for each of 272 nodes.
 fn worths<W: Levelled>(levels: &[Level]) -> Table<W, 272>
@@ -78,7 +77,7 @@ pub fn check(text: &[u8]) -> Result<Passed, Fault>
     // each kind of worth is a type of its own, and the kind that the text names picks it here: the two calls differ in what they do by it
     let tested = match read.kind() {
         Kind::Money => check_by::<Money>(read),
-        Kind::MoneyThenWeeks => check_by::<Lexicographic<Money, Weeks>>(read),
+        Kind::MoneyThenWeeks => check_by::<MoneyThenWeeks>(read),
     };
     Ok(tested?)
 }

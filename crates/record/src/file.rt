@@ -17,7 +17,7 @@ mod lines;
 mod offers;
 mod sections;
 
-// Whether some worth has a size over 1,000,000. network's own test is the other way round, whether all are within, and each is one chain.
+// Whether some worth has a size over 1,000,000, as the refusal says it. By way of network's test, whether all are within, it would want a lemma more.
 fn is_over<W: Worth>(worths: &[W]) -> bool
     ensures { Decides result (Any (λ w. 1000000 < W.Worth.ops.size w) worths.now) }
 {

@@ -17,6 +17,7 @@ use reading::level::Level;
 use worth::kind::Worth;
 use worth::lexicographic::Lexicographic;
 use worth::money::Money;
+use worth::money_then_weeks::MoneyThenWeeks;
 use worth::weeks::Weeks;
 
 // A kind of worth that records have: its worths stand in them as levels.
@@ -71,7 +72,7 @@ impl Levelled for Money {
     }
 }
 
-impl Levelled for Lexicographic<Money, Weeks> {
+impl Levelled for MoneyThenWeeks {
     ghost sort = { by_money_then_weeks };
 
     ghost level = { λ w. record { cents = w.first.cents; weeks = w.second.count } };
@@ -95,7 +96,7 @@ impl Levelled for Lexicographic<Money, Weeks> {
         }
     }
 
-    fn from_level(l: Level) -> Lexicographic<Money, Weeks> {
+    fn from_level(l: Level) -> MoneyThenWeeks {
         Lexicographic {
             first: Money { cents: l.cents },
             second: Weeks { count: l.weeks },

@@ -1,13 +1,12 @@
 use tables::table::Table;
-use worth::lexicographic::Lexicographic;
 use worth::money::Money;
-use worth::weeks::Weeks;
+use worth::money_then_weeks::MoneyThenWeeks;
 
 // The worth of a record's allotment, by its kind.
 #[derive(Clone, Copy, Debug, PartialEq, Eq)]
 pub enum Total {
     Money(Money),
-    MoneyThenWeeks(Lexicographic<Money, Weeks>),
+    MoneyThenWeeks(MoneyThenWeeks),
 }
 
 impl From<Money> for Total {
@@ -21,13 +20,13 @@ impl From<Money> for Total {
     }
 }
 
-impl From<Lexicographic<Money, Weeks>> for Total {
+impl From<MoneyThenWeeks> for Total {
     ghost use Rattle.std.specs.Prelude.{◌≡◌};
     ghost use Rattle.record.specs.declared.passed.Total.TheVariants.{MoneyThenWeeks};
 
     ghost from_gives = { λ worth total. total ≡ MoneyThenWeeks worth };
 
-    fn from(worth: Lexicographic<Money, Weeks>) -> Total {
+    fn from(worth: MoneyThenWeeks) -> Total {
         Total::MoneyThenWeeks(worth)
     }
 }

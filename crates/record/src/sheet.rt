@@ -13,9 +13,8 @@ use reading::record::Record;
 use round::open_round::OpenRound;
 use tables::refusal::Refusal;
 use text::fault::Fault;
-use worth::lexicographic::Lexicographic;
 use worth::money::Money;
-use worth::weeks::Weeks;
+use worth::money_then_weeks::MoneyThenWeeks;
 
 fn are_zero(units: &[u32]) -> bool
     ensures { Decides result (AllByRecursion (λ u. u ≡ 0) units.now) }
@@ -30,7 +29,8 @@ pub fn is_sheet(read: &Record) -> bool
     read.levels().is_empty() && are_zero(read.units()) && read.terms().all_stand()
 }
 
-// Clears a round by a kind of worth, whose work table fits in memory, and files the record.
+// Clears a round by a kind of worth, whose work table fits in memory, and files the record. The table is an array, so that the bound is
+// said of an array's row.
 fn clear_by<W: Levelled>(round: OpenRound, page: &mut [u8]) -> Result<usize, Refusal>
     requires { 272 * type_size W.row < 2 ^ 63 }
     ensures { ClearedRound W.Levelled.sort (book round) page.old page.new result }
@@ -55,7 +55,7 @@ pub fn clear_sheet(text: &[u8], page: &mut [u8]) -> Result<usize, Fault>
     // each kind of worth is a type of its own, and the kind that the text names picks it here: the two calls differ in what they do by it
     let cleared = match kind {
         Kind::Money => clear_by::<Money>(round, page),
-        Kind::MoneyThenWeeks => clear_by::<Lexicographic<Money, Weeks>>(round, page),
+        Kind::MoneyThenWeeks => clear_by::<MoneyThenWeeks>(round, page),
     };
     Ok(cleared?)
 }

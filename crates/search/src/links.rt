@@ -13,7 +13,8 @@ pub(crate) struct Links<'a> {
     ghost long: { net.nodes ≤ length last.now },
 }
 
-// The steps from one on up along the links, to a goal or a root, and no more than there are links.
+// The steps from one on up along the links, to a goal or a root, and no more than there are links. It counts what is left itself:
+// `take` of `successors` would have a type that no field can name.
 #[derive(Drop)]
 pub(crate) struct Ascent<'a> {
     links: Links<'a>,

@@ -1,7 +1,7 @@
 // The residual network over a table of arcs: where a step leads, how much it can take, and what it is worth.
 ghost use Rattle.std.specs.Prelude.{◌≡◌};
 ghost use Rattle.flow.specs.Arcs.{arc_at, net};
-ghost use Rattle.flow.specs.Steps.{arc as arc_of, step_worth};
+ghost use Rattle.flow.specs.Steps.{step_worth};
 ghost use Rattle.network.specs.Networks.{Sound};
 ghost use Rattle.search.specs.Links.{tail_of, head_of, residual_of};
 
@@ -18,11 +18,10 @@ pub(crate) struct Residual<'a> {
 }
 
 impl<'a> Residual<'a> {
-    // The arc of a step. Where there is none it is an idle one, so that each question below has an answer for every step.
-    fn arc(self, step: Step) -> Arc
-        ensures { result ≡ arc_at self.entry.arcs.now (arc_of step) }
+    // Arc i, or an idle one where there is none, so that each question below has an answer for every step.
+    fn arc(self, i: usize) -> Arc
+        ensures { result ≡ arc_at self.entry.arcs.now i }
     {
-        let (Step::Forward(i) | Step::Backward(i)) = step;
         self.arcs.get(i).copied().unwrap_or_default()
     }
 
@@ -30,21 +29,19 @@ impl<'a> Residual<'a> {
     pub(crate) fn tail(self, step: Step) -> usize
         ensures { result ≡ tail_of self.entry.arcs.now step }
     {
-        let arc = self.arc(step);
         match step {
-            Step::Forward(_) => arc.from as usize,
-            Step::Backward(_) => arc.to as usize,
+            Step::Forward(i) => self.arc(i).from as usize,
+            Step::Backward(i) => self.arc(i).to as usize,
         }
     }
 
-    // The node that a step leads to. Through `tail` of the step turned round it would be no shorter.
+    // The node that a step leads to. Through `tail` it would need a function that turns a step round, for this one place.
     pub(crate) fn head(self, step: Step) -> usize
         ensures { result ≡ head_of self.entry.arcs.now step }
     {
-        let arc = self.arc(step);
         match step {
-            Step::Forward(_) => arc.to as usize,
-            Step::Backward(_) => arc.from as usize,
+            Step::Forward(i) => self.arc(i).to as usize,
+            Step::Backward(i) => self.arc(i).from as usize,
         }
     }
 
@@ -52,10 +49,9 @@ impl<'a> Residual<'a> {
     pub(crate) fn room(self, step: Step) -> u32
         ensures { result ≡ residual_of self.entry.arcs.now step }
     {
-        let arc = self.arc(step);
         match step {
-            Step::Forward(_) => arc.capacity - arc.flow,
-            Step::Backward(_) => arc.flow,
+            Step::Forward(i) => self.arc(i).capacity - self.arc(i).flow,
+            Step::Backward(i) => self.arc(i).flow,
         }
     }
 
@@ -63,11 +59,9 @@ impl<'a> Residual<'a> {
     pub(crate) fn gain<W: Worth>(self, step: Step) -> W
         ensures { result ≡ step_worth W.ops (net W.ops self.entry.nodes self.entry.arcs.now) step }
     {
-        let arc = self.arc(step);
-        let unit = W::unit(arc.price, arc.weeks);
         match step {
-            Step::Forward(_) => unit,
-            Step::Backward(_) => unit.negated(),
+            Step::Forward(i) => W::unit(self.arc(i).price, self.arc(i).weeks),
+            Step::Backward(i) => W::unit(self.arc(i).price, self.arc(i).weeks).negated(),
         }
     }
 }

@@ -9,7 +9,8 @@ use network::improvable::Improvable;
 use network::readable::Network;
 use worth::kind::Worth;
 
-// Moves an amount along one step. The step can take it, so the push is not refused.
+// Moves an amount along one step. The step can take it, so the push is not refused. The two cases differ in a sign, and one push after
+// a `match` for the sign would be no shorter.
 fn push_step<N: Improvable>(net: &mut N, step: Step, amount: u32)
     requires { Takes (N.Network.net net.old) amount step }
     ensures pushed { N.Network.net net.new ≡ taken (N.Network.net net.old) amount step }

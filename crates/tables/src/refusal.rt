@@ -60,7 +60,7 @@ impl Refusal {
     }
 }
 
-// The number, and what is wrong.
+// The number, and what is wrong. It is not left to `thiserror`, whose output has no contract.
 impl fmt::Display for Refusal {
     ghost output = { λ e. Some (described e) };
 

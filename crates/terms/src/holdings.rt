@@ -3,7 +3,7 @@ ghost use Rattle.book.specs.Books.{spot_of, held_by};
 
 use book::holding::Holding;
 
-// Member and item are two parameters, as in the exchange's calls `hold` and `holding`.
+// Member and item are two parameters, as in the exchange's calls `hold` and `holding`, which hand them on.
 
 // The number of a member's holding of an item, or nothing where no entry exists.
 pub fn find_holding(holdings: &[Holding], member: u32, item: u32) -> Option<usize>
@@ -14,7 +14,8 @@ pub fn find_holding(holdings: &[Holding], member: u32, item: u32) -> Option<usiz
         .position(|h| (h.member, h.item) == (member, item))
 }
 
-// The units of a member's holding of an item, or nothing where no entry exists.
+// The units of a member's holding of an item, or nothing where no entry exists. They are looked up by the number that is promised above;
+// a `find` would be the same test once more.
 pub fn units_held(holdings: &[Holding], member: u32, item: u32) -> Option<u32>
     ensures { result ≡ held_by holdings.now member item }
 {

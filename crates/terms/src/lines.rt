@@ -12,8 +12,8 @@ pub fn is_out(limit: u32) -> bool
     limit < 1 || 1000 < limit
 }
 
-// Both sides are parameters, as in the exchange's call `offer`: the view of an offer belongs to `round`, above this crate, and
-// `reading` tests a line that is of no offer yet.
+// Both sides are parameters, since the view of an offer belongs to `round`, above this crate. Each test is one chain; a function over
+// what is tested would be as long as they are.
 
 // Whether some line of either side is of an item that is none of so many.
 pub fn has_unknown_item(items: usize, give: &[Line], get: &[Line]) -> bool
@@ -58,7 +58,7 @@ pub fn has_item(ls: &[Line], item: u32) -> bool
     ls.iter().map(|l| l.item).any(|i| i == item)
 }
 
-// Whether an item stands twice: some line is of the item of a line before it.
+// Whether an item stands twice: some line is of the item of a line before it. Its number is what parts off the lines before it.
 pub fn is_doubled(ls: &[Line]) -> bool
     ensures { Decides result (Twice (map item_of ls.now)) }
 {

@@ -4,6 +4,7 @@ pub mod spelling;
 
 // The name of an item or a member: its letters in place, with their count beside them, since no call of the library may
 // fail for want of memory. The bytes past them are 0. It has no `Default`: a name without letters would be no name.
+// It is no `Table`, which is not `Copy`, as what lies in a table of names has to be.
 #[derive(Clone, Copy)]
 pub struct Name {
     bytes: [u8; 12],

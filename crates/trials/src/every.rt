@@ -41,7 +41,7 @@ fn carried<F: Fn(&Arc) -> bool>(arcs: &[Arc], counts: F) -> u64
         .fold(0, u64::wrapping_add)
 }
 
-// Whether as much comes into a node as goes out of it.
+// Whether as much comes into a node as goes out of it. It is written apart from the library's own test, which is on trial here.
 fn balanced(arcs: &[Arc], node: u32) -> bool {
     carried(arcs, |arc| arc.to == node) == carried(arcs, |arc| arc.from == node)
 }
@@ -67,6 +67,7 @@ fn sums(arcs: &[Arc]) -> (i64, i64) {
 // The best of all circulations of at most five arcs with capacities up to 2: 3 to the power of 5 rows of flows.
 pub fn best_of(arcs: &mut [Arc]) -> Best {
     let mut best = Best::default();
+    // the bound on the rows is what shows that this ends
     for _ in 0..243 {
         if circulates(arcs) {
             best = best.or(sums(arcs));

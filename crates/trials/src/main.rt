@@ -11,11 +11,9 @@ use random::Random;
 use std::io;
 use tables::refusal::Refusal;
 use worth::kind::Worth;
-use worth::lexicographic::Lexicographic;
 use worth::money::Money;
+use worth::money_then_weeks::MoneyThenWeeks;
 use worth::weeks::Weeks;
-
-type MoneyThenWeeks = Lexicographic<Money, Weeks>;
 
 const NETWORKS: u32 = 20_000;
 
@@ -64,6 +62,7 @@ fn tried(arcs: &mut [Arc]) -> Trial {
 
 fn main(rt: HostRuntime) -> io::Result<()> {
     let mut random = Random::new(1);
+    // two counts, taken in one pass
     let mut gains: u32 = 0;
     let mut disagreements: u32 = 0;
     for _ in 0..NETWORKS {

@@ -2,7 +2,7 @@ ghost use Rattle.std.specs.Prelude.{◌<◌, ◌≤◌, length};
 
 use flow::arc::Arc;
 
-// Numbers that look random and are the same in each run.
+// Numbers that look random and are the same in each run and with each kit.
 #[derive(Clone, Copy)]
 pub struct Random {
     state: u64,
@@ -42,8 +42,8 @@ impl Random {
         )
     }
 
-    // Up to five arcs between up to four nodes, parallel ones and loops among them, at the start of the room that is lent. It is lent, so that
-    // no draw fails for want of memory, and since `best_of` alters the flows in place, which a `Table` does not let.
+    // Up to five arcs between up to four nodes, parallel ones and loops among them, at the start of the room that is lent. It is lent, since
+    // this call may not fail, and a `Vec` could, for want of memory.
     pub fn arcs<'a>(&mut self, room: &'a mut [Arc; 5]) -> &'a mut [Arc]
         ensures { length result.now ≤ 5 }
     {

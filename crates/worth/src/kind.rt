@@ -16,8 +16,8 @@ pub trait Worth: Copy + Ord {
     fn none() -> Self
         ensures { result ≡ ops.none };
 
-    // `plus` and `minus` are no `Add` and `Sub`. Those can ask for a bound too, but of a kind that is not known they say nothing of
-    // sizes and sums without further laws, which each caller would have to cite.
+    // `plus`, `minus`, `negated` and `times` are no `Add`, `Sub`, `Neg` and `Mul`, and `none` is no `Default`. Those can ask for a bound
+    // too, but of a kind that is not known they say nothing of sizes and sums without further laws, which each caller would have to cite.
     fn plus(self, other: Self) -> Self
         requires { ops.size self + ops.size other ≤ 4194304 }
         ensures { result ≡ ops.plus self other };

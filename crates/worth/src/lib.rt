@@ -4,4 +4,5 @@
 pub mod kind;
 pub mod lexicographic;
 pub mod money;
+pub mod money_then_weeks;
 pub mod weeks;

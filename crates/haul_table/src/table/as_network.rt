@@ -10,7 +10,7 @@ use network::readable::Network;
 use tables::refusal::Refusal;
 use worth::kind::Worth;
 
-// A haul table and a closed round are two types with one trait, of which each body is one call.
+// A closed round has blocks like these two: what the two types share is the trait, and a body is a call or two of what a type holds.
 impl<W: Worth> Network for HaulTable<W> {
     ghost net = { λ x. hauled x };
 

@@ -8,9 +8,8 @@ use book::side::Side;
 use tables::refusal::Refusal;
 use tables::table::Table;
 use worth::kind::Worth;
-use worth::lexicographic::Lexicographic;
 use worth::money::Money;
-use worth::weeks::Weeks;
+use worth::money_then_weeks::MoneyThenWeeks;
 
 // It only lies in the unused cells. `Default` is no plainer: no side of an offer is the one to begin with.
 const FILLER: Trade = Trade {
@@ -65,7 +64,7 @@ impl Ledger {
     {
         let mut lines: Table<Trade, 256> = Table::new(FILLER);
         for trade in self.trades.as_slice().iter().filter(|t| t.offer == offer) {
-            let _ = lines.push(*trade);
+            lines.push(*trade).unwrap();
         }
         Ledger { trades: lines }
     }
@@ -96,7 +95,7 @@ impl Ledger {
     {
         // the bounds are known where the field is looked at
         let _ = &self.trades;
-        let worth: Lexicographic<Money, Weeks> = self.worth();
+        let worth: MoneyThenWeeks = self.worth();
         (worth.first.cents, worth.second.count as u32)
     }
 

@@ -9,7 +9,7 @@ use round::closed_round::ClosedRound;
 use text::buffer::Buffer;
 use text::section::Section;
 
-// A record in the making, line by line.
+// A record in the making, line by line. `few` is what the buffer keeps, which from outside it only a call would show.
 #[derive(Drop)]
 pub(super) struct Draft {
     pub text: Buffer,

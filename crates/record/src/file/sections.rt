@@ -13,6 +13,7 @@ use reading::kind::Kind;
 use terms::name::Name;
 use text::section::Section;
 
+// Each section is a head and its entries. Entries are written in ways of their own, so that a function over all of them would be handed all but the head.
 impl Draft {
     // The section of the kind, with a word for each of its parts.
     pub(super) fn kind(&mut self, kind: Kind)

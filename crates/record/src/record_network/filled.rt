@@ -17,8 +17,8 @@ pub(super) struct FilledOffer<'a> {
     ghost gets: { Moderate offer.get.now got.now },
 }
 
-// The offers of a record from one on, with the units that are on their lines and those after them. A round's offers are asked for by number, and
-// this makes an iterator of that.
+// The offers of a record from one on, with the units that are on their lines and those after them. From outside its crate a
+// round shows its offers by number, and this makes an iterator of that.
 #[derive(Drop)]
 pub(super) struct FilledOffers<'a> {
     read: &'a Record,

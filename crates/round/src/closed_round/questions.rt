@@ -50,8 +50,9 @@ impl<W: Worth> ClosedRound<W> {
         &self.arcs.as_slice()[first..][..count]
     }
 
-    // The lines of an offer's side, and the arcs that stand for them. They are two slices side by side: the lines lie in a table in
-    // the order of the round, the arcs of holdings and offers in another, in the order of the network.
+    // The lines of an offer's side, and the arcs that stand for them, or nothing: which refusal that is each question says itself. They are
+    // two slices side by side: the lines lie in a table in the order of the round, the arcs of holdings and offers in another, in the
+    // order of the network.
     fn side(&self, offer: u32, side: Side) -> Option<(&[Line], &[Arc])>
         ensures { MatchOption result (length (closed_book self.now).offers ≤ offer) (λ p. Sided (closed_book self.now) (closed_allotment self.now) offer side p.0.now p.1.now) }
     {
@@ -77,7 +78,7 @@ impl<W: Worth> ClosedRound<W> {
             .ok_or(Refusal::Unknown)
     }
 
-    // An offer's payoff and its weeks got.
+    // An offer's payoff and its weeks got: a pair, since the exchange answers both together.
     pub fn payoff(&self, offer: u32) -> Result<(i64, u32), Refusal>
         ensures { AnswersPayoff (closed_book self.now) (closed_allotment self.now) offer result }
     {

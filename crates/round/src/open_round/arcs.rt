@@ -17,12 +17,12 @@ use terms::holdings::find_holding;
 fn get_arc(outside: u32, l: Line) -> Arc
     ensures { result ≡ get_arc outside l 0 }
 {
-    let weeks = if l.is_cash() { 0 } else { 1 };
+    let weeks = u32::from(!l.is_cash());
     Arc::new(outside, l.item, l.limit, i64::from(l.price), weeks)
 }
 
 impl OpenRound {
-    // The node that a give line leaves from, and how much may leave on it.
+    // The node that a give line leaves from, and how much may leave on it, which its one caller takes apart at once.
     fn source(&self, member: u32, l: Line) -> (u32, u32)
         ensures node { result.0 ≡ source (spot_of (book self.now).holdings member l.item) (length (book self.now).items) l.item }
         ensures capacity { result.1 ≡ give_capacity (spot_of (book self.now).holdings member l.item) l }

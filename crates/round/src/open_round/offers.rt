@@ -21,12 +21,6 @@ impl OfferView<'_> {
         is_out(self.limit) || has_line_out(self.give, self.get)
     }
 
-    fn is_overpriced(&self) -> bool
-        ensures { Decides result (EitherSide (λ l. 1000000 < l.price) self.now.give.now self.now.get.now) }
-    {
-        is_overpriced(self.give, self.get)
-    }
-
     fn has_double(&self) -> bool
         ensures { Decides result (Twice (map item_of self.now.give.now) ⊎ Twice (map item_of self.now.get.now)) }
     {
@@ -71,7 +65,7 @@ impl OpenRound {
         if offer.has_limit_out() {
             return Err(Refusal::Bounds);
         }
-        if offer.is_overpriced() {
+        if is_overpriced(offer.give, offer.get) {
             return Err(Refusal::Price);
         }
         if offer.has_double() {

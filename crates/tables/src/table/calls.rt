@@ -48,7 +48,7 @@ impl<T: Copy, const N: usize> Table<T, N> {
         self.as_slice().get(i).copied()
     }
 
-    // Puts x in the place of entry i.
+    // Puts x in the place of entry i. What is put back is a whole entry, so there is no `get_mut` beside it.
     pub fn set(&mut self, i: usize, x: T) -> Result<(), Refusal>
         ensures { Replaced self.old self.new i x result }
     {

@@ -1,6 +1,7 @@
 ghost use Rattle.reading.specs.Bounds.{Clamped};
 
 // A number as 32 bits hold it: one that is beyond every bound of a record stays so.
+// `haul` has a clamp of its own, over `i64`: each is one line of the library.
 pub(crate) fn clamp(n: u64) -> u32
     ensures { Clamped n result }
 {

@@ -26,7 +26,7 @@ fn next_word(reader: &mut Reader<'_>, word: &[u8]) -> Result<(), Fault>
     next_name(reader)?.test(|bytes| test_same(bytes, word, Refusal::Layout))
 }
 
-// The section of the kind.
+// The section of the kind. Its words stand here and in `file/sections.rt` of `record`: a list of them would be a slice of slices, for two words.
 pub(crate) fn read_kind(reader: &mut Reader<'_>) -> Result<Kind, Fault>
     ensures { (x : Contents) (due : List Slot) → MatchResult result (λ k. Onward (head Kinds ∷ due) x reader.old due (of_kind k x) reader.new) (λ f. Stops (head Kinds ∷ due) x reader.old f) }
 {

@@ -19,6 +19,7 @@ use worth::money::Money;
 use worth::weeks::Weeks;
 
 // The level of a row of one number. It is no closure, since of one that takes an array nothing is inferred.
+// Nor is it a `From<[i64; 1]> for Level`: a row does not say of which kind it is, and such a conversion would be open to every caller.
 fn in_money(row: [i64; 1]) -> Level
     ensures { numbers by_money result ≡ row }
 {
@@ -35,7 +36,7 @@ fn in_both(row: [i64; 2]) -> Level
 }
 
 impl Kind {
-    // Whether the size of a level is at most 1,000,000.
+    // Whether the size of a level is at most 1,000,000. It makes the worth itself: `Levelled`, which also makes worths of levels, stands in a crate above.
     fn is_fair(self, level: Level) -> bool
         ensures { result ≡ nat_le (level_size (numbers (kind_as self) level)) 1000000 }
     {

@@ -31,6 +31,7 @@ fn test_head(numbers: [u64; 4], members: u32, lines: usize) -> Result<OfferHead,
     ensures { HeadTested members lines numbers result }
 {
     let [member, limit, gives, gets] = numbers;
+    // The bounds are tested before the numbers, of up to 13 digits, are cut to the 32 bits of a head, as in a line of a side.
     if member >= u64::from(members) {
         return Err(Refusal::Unknown);
     }

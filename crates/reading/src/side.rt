@@ -20,6 +20,7 @@ pub(crate) struct FilledLine {
 
 // A side of an offer over so many items, and the lines that the other side has so far.
 // What it gives is read first, when there are none of these yet. So the test for cash on both sides is one for either.
+// Contracts take its two fields apart: of the rules of the layout, which they cite, one is about the items and another about the lines given.
 #[derive(Clone, Copy)]
 pub(crate) struct Side<'a> {
     pub(crate) items: u32,

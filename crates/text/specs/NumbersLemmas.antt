@@ -1,7 +1,8 @@
 -- The spelling of numbers: one for each number, and which bytes are one.
-use Rattle.std.specs.Prelude.{◌≡◌, ℕ, zero, suc, ◌+◌, ◌/◌, ◌%◌, ◌^◌, ◌<◌, ◌≤◌, List, [], ◌∷◌, ◌++◌, length, ℤ, pos, negsuc, neg_ℤ, ◌≤ℤ◌, ◌<ℤ◌, decimal, ◌≢◌, slice_index, slice_index_or, unsigned_abs, refl}
-use Rattle.std.proofs.Common.{sym, ap, subst, ◌∙◌, arith}
+use Rattle.std.specs.Prelude.{◌≡◌, ℕ, zero, suc, ◌+◌, ◌/◌, ◌%◌, ◌^◌, ◌<◌, ◌≤◌, List, [], ◌∷◌, ◌++◌, length, ℤ, pos, negsuc, neg_ℤ, decimal, ◌≢◌, slice_index, slice_index_or, refl}
+use Rattle.std.proofs.Common.{sym, ap, subst, ◌∙◌, arith, w64, SFits}
 use Rattle.std.specs.Str.Parse.{digits_value, AllDigits}
+use Rattle.std.specs.Fmt.{signed_decimal}
 use Rattle.std.specs.Int.{IsInRange}
 use Rattle.std.specs.Char.{digit_value as digitValue}
 use Rattle.std.proofs.lemmas.Fmt.{decimal_digit, decimal_step, decimal-digits_value, length-decimal-le}
@@ -47,6 +48,10 @@ pub decimal_spelt : (n : ℕ) → n < 2 ^ 64 → decimal n ≡ spelt n
 decimal_spelt = by_digits (λ n ds. n < 2 ^ 64 → decimal n ≡ ds)
     (λ n lt _. decimal_digit n lt)
     (λ n ds le h lt. decimal_step n le lt ∙ ap (λ l. l ++ (48 + n % 10) ∷ []) (h (omega arith)))
+
+pub signed_decimal_spelt : (z : ℤ) → SFits w64 z → signed_decimal z ≡ level_spelt z
+signed_decimal_spelt (pos n) fits = decimal_spelt n (omega (arith, ints, fits))
+signed_decimal_spelt (negsuc n) fits = ap (λ l. 45 ∷ l) (decimal_spelt (suc n) (omega (arith, ints, fits)))
 
 -- no two numbers are spelt alike
 pub same_from_spelt : (m n : ℕ) → spelt m ≡ spelt n → m ≡ n
@@ -132,19 +137,3 @@ legible_unsigned = record { once = same_from_spelt; high = λ n b low. not_in_sp
 
 pub legible_signed : Legible signed
 legible_signed = record { once = same_from_level; high = λ z b low. not_in_level b z (λ i. omega arith) (λ e. omega arith) }
-
--- a digit by itself, and all digits but the last before the last
-pub spelt_digit : (n : ℕ) → n < 10 → spelt n ≡ (48 + n) ∷ []
-spelt_digit n lt = sym (decimal_spelt n (omega arith)) ∙ decimal_digit n lt
-
-pub spelt_step : (n : ℕ) → 10 ≤ n → n < 2 ^ 64 → spelt n ≡ spelt (n / 10) ++ (48 + n % 10) ∷ []
-spelt_step n le lt = sym (decimal_spelt n lt) ∙ decimal_step n le lt ∙ ap (λ l. l ++ (48 + n % 10) ∷ []) (decimal_spelt (n / 10) (omega arith))
-
--- a level by its size
-pub level_below : (z : ℤ) → z <ℤ pos 0 → level_spelt z ≡ 45 ∷ spelt (unsigned_abs z)
-level_below (pos n) h = absurd (omega (arith, ints))
-level_below (negsuc n) h = refl
-
-pub level_above : (z : ℤ) → pos 0 ≤ℤ z → level_spelt z ≡ spelt (unsigned_abs z)
-level_above (pos n) h = refl
-level_above (negsuc n) h = absurd (omega (arith, ints))

@@ -1,5 +1,5 @@
 -- Reading a text line by line.
-use Rattle.std.specs.Prelude.{◌≡◌, ℕ, ◌+◌, ◌<◌, List, [], ◌∷◌, length, Result, MatchResult}
+use Rattle.std.specs.Prelude.{◌≡◌, ℕ, ◌+◌, ◌<◌, List, [], ◌∷◌, length, IfOk, Result, MatchResult}
 use Rattle.tables.specs.Refusals.{when, First, refusal}
 use Rattle.tables.specs.declared.refusal.Refusal.{Refusal}
 use Rattle.tables.specs.declared.refusal.Refusal.TheVariants.{Layout}
@@ -12,10 +12,10 @@ use Rattle.text.specs.declared.reader.Reader.{Reader}
 abbrev pub Begins : List ℕ → Reader → Type 0
 Begins text reader = (reader.rest.now ≡ text) × (reader.line ≡ 1)
 
--- reading begins; a text over 32,768 bytes is refused, and then nothing changes
-pub record Opened (text : List ℕ) (before after : Reader) (r : Result (Unit {0}) Refusal) : Type 0 where
+-- reading begins; a text over 32,768 bytes is refused
+pub record Opened (text : List ℕ) (r : Result Reader Refusal) : Type 0 where
   pub refused : First (when 14 (32768 < length text) ∷ []) (refusal r)
-  pub outcome : MatchResult r (λ _. Begins text after) (λ _. after ≡ before)
+  pub outcome : IfOk r (Begins text)
 
 -- the text has an ended line next that is an x, and reading goes on after it
 pub record Advanced {X : Type 0} (Is : List ℕ → X → Type 0) (before after : Reader) (x : X) : Type 0 where

@@ -6,6 +6,7 @@ ghost use Rattle.text.specs.Sections.{letter};
 
 use super::numeral::Numeral;
 use super::section::Section;
+use itoa::Buffer as Digits;
 use std::marker::Model;
 use tables::refusal::Refusal;
 use tables::table::Table;
@@ -68,25 +69,18 @@ impl Buffer {
         Ok(())
     }
 
-    // Puts a number in, in decimal digits. A `write!` is no plainer: where it fails, std does not say how much it has put in.
+    // Puts a number in, in decimal digits. It is no `write!`: where that fails, std does not say how much it has put in.
     pub fn number(&mut self, n: u64) -> Result<(), Refusal>
         ensures { Put self.old self.new (spelt n) result }
     {
-        if n < 10 {
-            return self.put(&[b'0' + n as u8]);
-        }
-        self.number(n / 10)?;
-        self.put(&[b'0' + (n % 10) as u8])
+        self.put(Digits::new().format(n).as_bytes())
     }
 
     // Puts a number in, with a minus where it is below 0.
     pub fn level(&mut self, z: i64) -> Result<(), Refusal>
         ensures { Put self.old self.new (level_spelt z) result }
     {
-        if z < 0 {
-            self.put(b"-")?;
-        }
-        self.number(z.unsigned_abs())
+        self.put(Digits::new().format(z).as_bytes())
     }
 
     // Puts numbers in, with one space between; of no numbers, nothing.
@@ -94,7 +88,9 @@ impl Buffer {
         ensures { Put self.old self.new (row_spelt T.Numeral.notation numbers.now) result }
     {
         let Some((first, others)) = numbers.split_first() else {
-            return self.put(b"");
+            // the bound is known where the field is looked at
+            let _ = &self.bytes;
+            return Ok(());
         };
         first.write(self)?;
         for x in others {

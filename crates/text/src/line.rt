@@ -9,6 +9,7 @@ use super::section::Section;
 use tables::refusal::Refusal;
 
 // The sorts of lines. A sort is asked for before there is a line, so it is an enum of its own beside `Line`.
+// With a closure in its place the reader would say only what a caller makes of a line, and no longer what a line is.
 #[derive(Clone, Copy, Debug, PartialEq, Eq)]
 pub enum Sort {
     Head,

@@ -8,6 +8,8 @@ pub struct Parts<'a> {
 }
 
 // The bytes cut at the first separator, or nothing where there is none.
+// std has a `split_once` of a text, which these bytes need not be, and none of a slice. `bstr` has one, which says where it cuts by the list of all
+// matches: `Cut` would have to be proved of that list, and the code is no plainer.
 pub fn cut<'a>(bytes: &'a [u8], separator: u8) -> Option<Parts<'a>>
     ensures { Cut separator bytes.now result }
 {

@@ -23,16 +23,8 @@ impl Section {
     }
 }
 
-// The letter that opens the section.
-impl From<Section> for u8 {
-    ghost from_gives = { λ s b. b ≡ lettered s };
-
-    fn from(section: Section) -> u8 {
-        section.letter()
-    }
-}
-
-// The section that the letter opens.
+// The section that the letter opens. The letters stand here once more, as characters, so that a head's letter picks the case as it stands in
+// the layout: a match on `b if b == Section::Kinds as u8` would be six guards.
 impl TryFrom<u8> for Section {
     type Error = Refusal;
 

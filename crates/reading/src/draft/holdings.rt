@@ -14,6 +14,7 @@ use tables::refusal::Refusal;
 use text::fault::{Fault, at_line};
 
 // A new holding of the round: the first for its member and item.
+// Units over 1,000 are tested here, though the round tests them again: out of bounds is refused before a double, and the round refuses no double.
 fn hold_first(round: &mut OpenRound, h: Holding) -> Result<(), Refusal>
     requires { length (book round.old).holdings < 128 }
     ensures { HoldsFirst (book round.old) (book round.new) h result }
@@ -28,7 +29,7 @@ fn hold_first(round: &mut OpenRound, h: Holding) -> Result<(), Refusal>
     round.hold(h.member, h.item, h.units)
 }
 
-// The holding that a row says, in numbers of 32 bits.
+// The holding that a row says, in numbers of 32 bits. It is no `From`, since both types are of other crates.
 fn clamped(row: [u64; 3]) -> Holding
     ensures { Clamped (slice_index row 0) result.member × Clamped (slice_index row 1) result.item × Clamped (slice_index row 2) result.units }
 {
@@ -42,7 +43,8 @@ fn clamped(row: [u64; 3]) -> Holding
 
 impl Draft<'_> {
     // The next line under H, as one more holding of the round.
-    // It does not go through `Numbered::test`, for the same reason as the names.
+    // It does not go through `Numbered::test`: of a closure that holds the round its caller learns the result, and not the round that it leaves,
+    // so the proof did not close.
     pub(super) fn next_holding(&mut self) -> Result<(), Fault>
         requires { length (so_far self.old).holdings < 128 }
         ensures { Gains AHolding 1 self.old self.new result }

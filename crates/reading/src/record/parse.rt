@@ -14,8 +14,7 @@ impl Record {
         ensures outcome { Reading text.now result }
         ensures law { ReadingLaw }
     {
-        let mut reader = Reader::empty();
-        reader.open(text)?;
+        let mut reader = Reader::open(text)?;
         let kind = read_kind(&mut reader)?;
         let mut draft = Draft::begin(reader, kind)?;
         draft.read_section(Entry::Member)?;

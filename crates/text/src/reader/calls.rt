@@ -1,6 +1,6 @@
-ghost use Rattle.std.specs.Prelude.{◌≡◌, []};
+ghost use Rattle.std.specs.Prelude.{◌≡◌};
 ghost use Rattle.text.specs.Lines.{Says};
-ghost use Rattle.text.specs.Readers.{Begins, Opened, Next, Ended};
+ghost use Rattle.text.specs.Readers.{Opened, Next, Ended};
 
 use super::super::fault::{Fault, at_line};
 use super::super::line::{Line, Sort};
@@ -9,23 +9,17 @@ use super::Reader;
 use tables::refusal::Refusal;
 
 impl<'a> Reader<'a> {
-    // A reader with no text yet.
-    pub fn empty() -> Reader<'a>
-        ensures { Begins [] result }
-    {
-        Reader { rest: &[], line: 1 }
-    }
-
     // Begins to read a text, which has at most 32,768 bytes.
-    pub fn open(&mut self, text: &'a [u8]) -> Result<(), Refusal>
-        ensures { Opened text.now self.old self.new result }
+    pub fn open(text: &'a [u8]) -> Result<Reader<'a>, Refusal>
+        ensures { Opened text.now result }
     {
         if text.len() > 32768 {
             return Err(Refusal::Long);
         }
-        self.rest = text;
-        self.line = 1;
-        Ok(())
+        Ok(Reader {
+            rest: text,
+            line: 1,
+        })
     }
 
     // The number of the line that comes next.

@@ -1,9 +1,12 @@
-use Rattle.std.proofs.Common.{Err, ap}
-use Rattle.std.proofs.lemmas.List.{take_all}
+use Rattle.std.proofs.Common.{◌≤◌, length, Err, sym, ap, subst}
+use Rattle.std.proofs.lemmas.List.{take_all, nil_from_length}
 use Rattle.std.proofs.lemmas.Result.{err_from_is_err_and}
-use Rattle.text.specs.Rows.{spaced}
+use Rattle.text.specs.Rows.{spaced, row_spelt}
 use Rattle.text.proofs.Puts.{put_few, put_none, put_same, put_spaced, put_gap, put_cut, put_row, put_no_row}
 use Rattle.text.proofs.buffer.Buffer.row.Goals as goal
+
+pub returns-in_default : goal.returns-in_default
+returns-in_default g c = put_same (sym (ap (row_spelt g.T.Numeral.notation) (nil_from_length c.args.numbers.now c.in_default.ensures.cases))) (put_none _ (subst (λ l. length l ≤ 32768) c.self.view_is c.self.invariant))
 
 pub returns-in_err-write : goal.returns-in_err-write
 returns-in_err-write g c =

@@ -24,9 +24,11 @@ pub record Book : Type 0 where
 abbrev pub no_line : Line
 no_line = record { item = 0; limit = 0; price = 0 }
 
+-- the holdings likewise
 abbrev pub no_holding : Holding
 no_holding = record { member = 0; item = 0; units = 0 }
 
+-- and the offers
 abbrev pub no_offer : Offer
 no_offer = record { member = 0; limit = 0; give = []; get = [] }
 
@@ -55,9 +57,11 @@ Twice {X} xs = (j : ℕ) × (j < length xs) × (i : ℕ) × (i < j) × ((d : X) 
 abbrev pub Any : {X : Type 0} → (X → Type 0) → List X → Type 0
 Any {X} P xs = (k : ℕ) × (k < length xs) × ((d : X) → P (slice_index_or xs k d))
 
+-- the item of a line
 abbrev pub item_of : Line → ℕ
 item_of l = l.item
 
+-- the member and the item of a holding
 abbrev pub pair : Holding → ℕ × ℕ
 pair h = (h.member, h.item)
 

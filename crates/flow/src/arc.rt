@@ -13,7 +13,7 @@ pub struct Arc {
 }
 
 impl Arc {
-    // An arc on which nothing flows.
+    // An arc on which nothing flows. It takes the five numbers apart, since it is what makes one value of them.
     pub fn new(from: u32, to: u32, capacity: u32, price: i64, weeks: u32) -> Arc
         ensures { result ≡ fresh from to capacity price weeks }
     {

@@ -21,7 +21,7 @@ fn first_number(text: &str) -> Option<(i64, &str)>
     Some((number(word)?, rest))
 }
 
-// The numbers of a line.
+// The numbers of a line. They are no `Arc` yet: any of them may be below 0 here, and an arc has only its price so.
 #[derive(Clone, Copy)]
 pub struct Fields {
     pub from: i64,
@@ -49,7 +49,7 @@ fn read_fields(line: &str) -> Option<Fields>
     })
 }
 
-// A number of a field that has none below 0.
+// A number of a field that has none below 0. It is one line of the library, as is `clamp` in `reading`, which is over `u64`.
 fn unsigned(number: i64) -> u32
     ensures { result ≡ clamped number }
 {

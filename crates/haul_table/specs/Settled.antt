@@ -8,9 +8,11 @@ use Rattle.network.specs.Networks.{Net, Sound}
 use Rattle.haul_table.specs.Roads.{hauled, Alike}
 use Rattle.haul_table.specs.declared.table.HaulTable.{HaulTable}
 
+-- bounds hold in one way at most
 sound_prop : (n : Net) → IsProp (Sound n)
 sound_prop n = hlevel (le_prop, T_prop)
 
+-- tables with the same arcs are equal
 pub alike_settled : {W : Type 0} (x y : HaulTable W) → Alike x y → hauled x ≡ hauled y → x ≡ y
 alike_settled x y a e =
     let p : x.arcs ≡ y.arcs = ap (λ n. n.arcs) e in

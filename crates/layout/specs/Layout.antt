@@ -48,9 +48,11 @@ Says level = List ℤ
 abbrev pub holding_row : Holding → List ℕ
 holding_row h = h.member ∷ h.item ∷ h.units ∷ []
 
+-- the numbers of an offer's head
 abbrev pub offer_row : HeadOfOffer → List ℕ
 offer_row o = o.member ∷ o.limit ∷ o.gives ∷ o.gets ∷ []
 
+-- the numbers of a line
 abbrev pub line_row : LineWithUnits → List ℕ
 line_row l = l.line.item ∷ l.line.limit ∷ l.line.price ∷ l.units ∷ []
 

@@ -20,6 +20,7 @@ abbrev pub words : Kind → List (List ℕ)
 words by_money = codes "money" ∷ []
 words by_money_then_weeks = codes "money" ∷ codes "weeks" ∷ []
 
+-- how many parts a kind has
 abbrev pub parts : Kind → ℕ
 parts k = length (words k)
 
@@ -49,9 +50,11 @@ pub record Contents : Type 0 where
   pub offers : List OfferWithUnits
   pub levels : List (List ℤ)
 
+-- the line without the units
 abbrev pub line_of : LineWithUnits → Line
 line_of l = l.line
 
+-- the units alone
 abbrev pub units_of : LineWithUnits → ℕ
 units_of l = l.units
 
@@ -63,6 +66,7 @@ offer_of o = record { member = o.member; limit = o.limit; give = map line_of o.g
 abbrev pub book_of : Contents → Book
 book_of x = record { items = x.items; members = x.members; holdings = x.holdings; offers = map offer_of x.offers }
 
+-- what the offers are read as past their end
 abbrev pub no_filled_offer : OfferWithUnits
 no_filled_offer = record { member = 0; limit = 0; give = []; get = [] }
 

@@ -1,5 +1,5 @@
 -- The lines of a text one by one, and what entering the trade of one does.
-use Rattle.std.proofs.Common.{◌≡◌, ◌≢◌, ℕ, suc, ◌+◌, ◌<◌, ◌≤◌, min, false, cond, eqb, List, [], ◌∷◌, ◌++◌, map, length, get_or, take, Some, None, Ok, Err, Option, Result, sym, refl, ap, ◌∙◌, subst, ⊎_elim, append_assoc, append-nil, arith, MatchOption, MatchResult}
+use Rattle.std.proofs.Common.{◌≡◌, ◌≢◌, ℕ, suc, ◌+◌, ◌<◌, ◌≤◌, min, true, false, cond, eqb, List, [], ◌∷◌, ◌++◌, map, length, get_or, take, Some, None, Ok, Err, Option, Result, sym, refl, ap, ◌∙◌, subst, ⊎_elim, append_assoc, append-nil, arith, MatchOption, MatchResult}
 use Rattle.std.specs.Borrow.{Bor}
 use Rattle.std.specs.List.{IsFirstMatchOrLen}
 use Rattle.std.specs.Option.{unwrap_or}
@@ -7,11 +7,14 @@ use Rattle.std.proofs.lemmas.Bool.{cases_lt, eqb-true, eqb-false}
 use Rattle.std.proofs.lemmas.Bool.Decides.{nat_tests}
 use Rattle.std.proofs.lemmas.List.{get_or_append_left, length-append, map_push, nil_from_length, take_all, take_more}
 use Rattle.tables.specs.declared.refusal.Refusal.{Refusal}
+use Rattle.tables.proofs.Firsts.{not_first, not_rest}
 use Rattle.text.specs.Parts.{Free}
 use Rattle.ledger.specs.Ledgers.{Entered}
 use Rattle.ledger.specs.Readings.{onto, lines, Refused, barred}
 use Rattle.ledger.specs.Spellings.{Spells, spelling}
+use Rattle.ledger.specs.Trades.{sound}
 use Rattle.ledger.specs.declared.trade.Trade.{Trade}
+use Rattle.ledger.proofs.Sums.{sound_if}
 
 free_rest : (b : ℕ) (line : List ℕ) → Free 10 (b ∷ line) → Free 10 line
 free_rest b line f k lt = f (suc k) (omega arith)
@@ -60,8 +63,15 @@ module _ (rest after : List ℕ) (part : Bor (List ℕ)) (i : ℕ) (is : rest �
       ∙ ap (λ b. b.now ∷ lines after) (sym e)
 
 -- the trade of a line is entered, or the line is refused
-pub line_entered : (before after : List Trade) (line : List ℕ) (t : Trade) (r : Result (Unit {0}) Refusal) → Spells line t → Entered before after t r → MatchResult r (λ _. (u : Trade) × Spells line u × (after ≡ before ++ u ∷ [])) (λ e. Refused before line e × (after ≡ before))
-line_entered before after line t (Ok x) s h = (t, s, h.outcome)
+pub line_entered : (before after : List Trade) (line : List ℕ) (t : Trade) (r : Result (Unit {0}) Refusal) → Spells line t → Entered before after t r → MatchResult r (λ _. (u : Trade) × Spells line u × (after ≡ before ++ u ∷ []) × (sound u ≡ true) × (length before < 256)) (λ e. Refused before line e × (after ≡ before))
+line_entered before after line t (Ok x) s h =
+    let offer = not_first h.refused in
+    let after_offer = not_rest h.refused in
+    let room = not_first after_offer in
+    let after_room = not_rest after_offer in
+    let units = not_first after_room in
+    let price = not_first (not_rest after_room) in
+    (t, s, h.outcome, sound_if t (omega arith) (omega arith) (omega arith), omega arith)
 line_entered before after line t (Err e) s h = (barred t s h.refused, h.outcome)
 
 -- one line more of the text is entered

@@ -2,10 +2,9 @@
 use Rattle.std.proofs.Common.{◌≡◌, ℕ, zero, suc, ◌+◌, ◌*◌, ◌<◌, ◌≤◌, Bool, true, false, cond, not, ◌&&◌, ◌||◌, eqb, nat_lt, List, [], ◌∷◌, ◌++◌, map, length, get_or, take, ℤ, pos, neg_ℤ, Ok, Err, Result, sym, refl, ap, ◌∙◌, subst, ap₂, suc-mul, mul-le-mul_left, arith, w64, SFits, to_z, of_z}
 use borrow.Author.Differences.{ints}
 use Rattle.std.specs.List.{AllByRecursion, list_any}
-use Rattle.std.proofs.lemmas.List.Elements.{filter_more}
 use Rattle.std.proofs.ByRecursion.{All-get_or, All-push, all_kept_by}
 use Rattle.std.proofs.lemmas.List.Filters.{length-filter_both}
-use Rattle.std.proofs.lemmas.List.{get_or-map, length-map, length_push, append-nil}
+use Rattle.std.proofs.lemmas.List.{get_or-map, length-map, length_push}
 use Rattle.std.proofs.lemmas.Int.{to_z-of_z}
 use Rattle.std.proofs.lemmas.Bool.Decides.{nat_tests}
 use Rattle.tables.specs.Tables.{Added}
@@ -76,10 +75,13 @@ unit_is o t u p w fits a b e = e ∙ ap (λ z. o.unit z w) (to_z-of_z w64 p fits
 abbrev pub Kept : List Trade → Type 0
 Kept ts = (all_sound ts ≡ true) × (length ts ≤ 256)
 
--- after one trade more, or a refusal, it still does
+-- after one sound trade more, within the bound, it still does
+pub kept_push : (before after : List Trade) (t : Trade) → after ≡ before ++ t ∷ [] → all_sound before ≡ true → length before < 256 → sound t ≡ true → Kept after
+kept_push before after t e h room s = subst Kept (sym e) (sound_each (before ++ t ∷ []) (All-push (λ u. sound u ≡ true) before t (each_sound before h) s), omega (arith, length_push before t))
+
+-- and after an outcome of adding it
 pub still_kept : {n : ℕ} (before after : List Trade) (t : Trade) (r : Result (Unit {0}) Refusal) → Added n before after (t ∷ []) r → all_sound before ≡ true → length before < 256 → sound t ≡ true → Kept after
-still_kept before after t (Ok x) a h room s =
-    subst Kept (sym a.outcome) (sound_each (before ++ t ∷ []) (All-push (λ u. sound u ≡ true) before t (each_sound before h) s), omega (arith, length_push before t))
+still_kept before after t (Ok x) a h room s = kept_push before after t a.outcome h room s
 still_kept before after t (Err e) a h room s = subst Kept (sym a.outcome) (h, omega arith)
 
 -- a trade that was read from sound ones
@@ -92,17 +94,6 @@ kept_sound k ts h = sound_each (lines_of k ts) (all_kept_by (λ t. eqb t.offer k
 -- what a list of trades is read with past its end
 abbrev pub blank : Trade
 blank = record { offer = 0; side = Give; price = 0; units = 0; is_week = false }
-
--- the lines of an offer, one trade further on
-pub kept_next : (k : ℕ) (ts : List Trade) (i : ℕ) → i < length ts → (get_or ts i blank).offer ≡ k → lines_of k (take (i + 1) ts) ≡ lines_of k (take i ts) ++ get_or ts i blank ∷ []
-kept_next k ts i within e =
-    let b : eqb (get_or ts i blank).offer k ≡ true = grind (arith, nat_tests) in
-    filter_more (λ t. eqb t.offer k) ts i blank within ∙ ap (λ c. lines_of k (take i ts) ++ cond c (get_or ts i blank ∷ []) []) b
-
-pub skipped_next : (k : ℕ) (ts : List Trade) (i : ℕ) → i < length ts → ((get_or ts i blank).offer ≡ k → ⊥) → lines_of k (take (i + 1) ts) ≡ lines_of k (take i ts)
-skipped_next k ts i within e =
-    let b : eqb (get_or ts i blank).offer k ≡ false = grind (arith, nat_tests) in
-    filter_more (λ t. eqb t.offer k) ts i blank within ∙ ap (λ c. lines_of k (take i ts) ++ cond c (get_or ts i blank ∷ []) []) b ∙ append-nil (lines_of k (take i ts))
 
 above : (n : ℕ) → 0 < n → nat_lt 0 n ≡ true
 above n h = grind (arith, nat_tests)

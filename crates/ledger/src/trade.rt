@@ -11,6 +11,7 @@ pub struct Trade {
     pub side: Side,
     pub price: u32,
     pub units: u32,
+    // a yes or no that counts as so many weeks a unit, and no kind of worth in disguise
     pub is_week: bool,
 }
 

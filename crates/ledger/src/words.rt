@@ -13,7 +13,7 @@ pub(crate) fn number(word: &[u8]) -> Result<u32, Refusal>
     Ok(digits::<9>(word)? as u32)
 }
 
-// The side that the word names.
+// The side that the word names. A `TryFrom` would have to stand in the crate of `Side`, which knows nothing of words.
 pub(crate) fn side(word: &[u8]) -> Result<Side, Refusal>
     ensures { Reads (λ s. word.now ≡ side_word s) result }
 {
@@ -24,7 +24,7 @@ pub(crate) fn side(word: &[u8]) -> Result<Side, Refusal>
     }
 }
 
-// Whether the word is that of a sort of week.
+// Whether the word is that of a sort of week. A `TryFrom` would have to stand in the crate of `bool`, which is the library.
 pub(crate) fn is_week(word: &[u8]) -> Result<bool, Refusal>
     ensures { Reads (λ b. word.now ≡ sort_word b) result }
 {

@@ -23,7 +23,8 @@ fn main(rt: HostRuntime) -> anyhow::Result<()> {
 
 // A line for each offer, its payoff and its weeks got, and one for the worth.
 fn print_round(rt: &HostRuntime, round: &ClosedRound<Money>) -> anyhow::Result<()> {
-    for offer in 0..6u32 {
+    // an offer's payoff is asked for by number
+    for offer in 0..round.terms().offer_count() {
         if let Ok((payoff, weeks)) = round.payoff(offer) {
             println!(rt; "offer {offer} {payoff} {weeks}")?;
         }

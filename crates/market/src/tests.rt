@@ -1,21 +1,9 @@
-use book::line::Line;
+use super::line;
 use book::side::Side;
 use round::closed_round::ClosedRound;
 use round::open_round::OpenRound;
 use tables::refusal::Refusal;
 use worth::money::Money;
-
-// The number of a refusal, or 0 for a call that was accepted.
-fn number_of<T: Drop>(r: Result<T, Refusal>) -> u32 {
-    match r {
-        Ok(_) => 0,
-        Err(refusal) => refusal.number(),
-    }
-}
-
-fn line(item: u32, limit: u32, price: u32) -> Line {
-    Line { item, limit, price }
-}
 
 // One sort of week and two members, of which the first holds 5 weeks.
 fn small() -> OpenRound {
@@ -27,30 +15,30 @@ fn small() -> OpenRound {
     round
 }
 
-fn sale(round: &mut OpenRound, limit: u32, price: u32) -> u32 {
-    number_of(round.offer(0, limit, &[line(1, limit, price)], &[line(0, limit, 0)]))
+fn sale(round: &mut OpenRound, limit: u32, price: u32) -> Result<u32, Refusal> {
+    round.offer(0, limit, &[line(1, limit, price)], &[line(0, limit, 0)])
 }
 
-fn purchase(round: &mut OpenRound, price: u32) -> u32 {
-    number_of(round.offer(1, 4, &[line(0, 4, 0)], &[line(1, 4, price)]))
+fn purchase(round: &mut OpenRound, price: u32) -> Result<u32, Refusal> {
+    round.offer(1, 4, &[line(0, 4, 0)], &[line(1, 4, price)])
 }
 
 #[test]
 fn limits_and_prices_have_edges(rt: HostRuntime) {
     let mut round = small();
-    assert_eq!(rt; sale(&mut round, 1000, 1_000_000), 0);
-    assert_eq!(rt; sale(&mut round, 0, 1), 3);
-    assert_eq!(rt; sale(&mut round, 1001, 1), 3);
-    assert_eq!(rt; sale(&mut round, 1, 1_000_001), 4);
+    assert_eq!(rt; sale(&mut round, 1000, 1_000_000), Ok(0));
+    assert_eq!(rt; sale(&mut round, 0, 1), Err(Refusal::Bounds));
+    assert_eq!(rt; sale(&mut round, 1001, 1), Err(Refusal::Bounds));
+    assert_eq!(rt; sale(&mut round, 1, 1_000_001), Err(Refusal::Price));
 }
 
 #[test]
 fn cash_may_not_gain_by_going_round(rt: HostRuntime) {
     let mut round = small();
-    let low = number_of(round.offer(0, 1, &[line(0, 1, 20)], &[line(0, 1, 40)]));
-    assert_eq!(rt; low, 8);
-    let even = number_of(round.offer(0, 1, &[line(0, 1, 40)], &[line(0, 1, 40)]));
-    assert_eq!(rt; even, 0);
+    let low = round.offer(0, 1, &[line(0, 1, 20)], &[line(0, 1, 40)]);
+    assert_eq!(rt; low, Err(Refusal::Loop));
+    let even = round.offer(0, 1, &[line(0, 1, 40)], &[line(0, 1, 40)]);
+    assert_eq!(rt; even, Ok(0));
 }
 
 fn cleared(open: OpenRound) -> ClosedRound<Money> {
@@ -83,8 +71,7 @@ fn weeks_got_may_not_be_given(rt: HostRuntime) {
     let _ = round.offer(2, 4, &[line(0, 4, 0)], &[line(1, 4, 200)]);
     let closed = cleared(round);
     assert_eq!(rt; closed.worth().cents, 300);
-    assert_eq!(rt; number_of(closed.units(2, Side::Give, 0)), 0);
-    assert_eq!(rt; closed.units(2, Side::Give, 0).unwrap_or(7), 0);
+    assert_eq!(rt; closed.units(2, Side::Give, 0), Ok(0));
 }
 
 #[test]
@@ -95,22 +82,22 @@ fn the_last_offer_and_line_count(rt: HostRuntime) {
     let _ = round.offer(1, 4, &[line(0, 4, 0)], &[line(2, 4, 500), line(1, 4, 130)]);
     let closed = cleared(round);
     assert_eq!(rt; closed.worth().cents, 90);
-    assert_eq!(rt; closed.units(1, Side::Get, 1).unwrap_or(0), 3);
-    assert_eq!(rt; number_of(closed.units(1, Side::Get, 2)), 1);
-    assert_eq!(rt; number_of(closed.payoff(2)), 1);
+    assert_eq!(rt; closed.units(1, Side::Get, 1), Ok(3));
+    assert_eq!(rt; closed.units(1, Side::Get, 2), Err(Refusal::Unknown));
+    assert_eq!(rt; closed.payoff(2), Err(Refusal::Unknown));
 }
 
 #[test]
 fn holdings_and_withdrawals(rt: HostRuntime) {
     let mut round = small();
-    assert_eq!(rt; round.holding(0, 0).unwrap_or(Some(9)), None);
+    assert_eq!(rt; round.holding(0, 0), Ok(None));
     let _ = round.hold(0, 0, 0);
-    assert_eq!(rt; round.holding(0, 0).unwrap_or(None), Some(0));
+    assert_eq!(rt; round.holding(0, 0), Ok(Some(0)));
     let _ = round.hold(0, 1, 2);
-    assert_eq!(rt; round.holding(0, 1).unwrap_or(None), Some(2));
-    assert_eq!(rt; number_of(round.holding(2, 0)), 1);
+    assert_eq!(rt; round.holding(0, 1), Ok(Some(2)));
+    assert_eq!(rt; round.holding(2, 0), Err(Refusal::Unknown));
     let _ = sale(&mut round, 3, 100);
-    assert_eq!(rt; number_of(round.withdraw(0)), 0);
-    assert_eq!(rt; number_of(round.withdraw(0)), 9);
-    assert_eq!(rt; number_of(round.withdraw(1)), 1);
+    assert_eq!(rt; round.withdraw(0), Ok(()));
+    assert_eq!(rt; round.withdraw(0), Err(Refusal::Withdrawn));
+    assert_eq!(rt; round.withdraw(1), Err(Refusal::Unknown));
 }

@@ -23,11 +23,9 @@ fn run(rt: &HostRuntime) -> anyhow::Result<()> {
 
 // A line for each offer that trades, in order of number, and a line for each kind of worth.
 fn print_payoffs(rt: &HostRuntime, ledger: &Ledger) -> anyhow::Result<()> {
-    for offer in 0..64u32 {
-        if ledger.mentions(offer) {
-            let (payoff, weeks) = ledger.payoff(offer);
-            println!(rt; "offer {offer} {payoff} {weeks}")?;
-        }
+    for offer in (0..64).filter(|offer| ledger.mentions(*offer)) {
+        let (payoff, weeks) = ledger.payoff(offer);
+        println!(rt; "offer {offer} {payoff} {weeks}")?;
     }
     let money = ledger.money();
     println!(rt; "money {money}")?;

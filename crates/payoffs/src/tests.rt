@@ -3,10 +3,16 @@ use ledger::ledger::Ledger;
 use ledger::reading::read_ledger;
 use ledger::trade::Trade;
 use std::test::Fail;
+use tables::refusal::Refusal;
+use text::fault::Fault;
 
-fn fault_of(text: &[u8]) -> Option<(u32, u32)> {
-    let fault = read_ledger(text).err()?;
-    Some((fault.line, fault.refusal.number()))
+fn fault_of(text: &[u8]) -> Option<Fault> {
+    read_ledger(text).err()
+}
+
+// The fault that a text is to have.
+fn fault(line: u32, refusal: Refusal) -> Option<Fault> {
+    Some(Fault { refusal, line })
 }
 
 #[test]
@@ -25,26 +31,29 @@ fn two_offers_trade(rt: HostRuntime) -> Result<(), Fail> {
 fn the_last_line_may_lack_its_end(rt: HostRuntime) {
     assert_eq!(rt; fault_of(b""), None);
     assert_eq!(rt; fault_of(b"0 give 1 1 cash"), None);
-    assert_eq!(rt; fault_of(b"0 give 1 1 cash\n\n"), Some((2, 13)));
+    assert_eq!(rt; fault_of(b"0 give 1 1 cash\n\n"), fault(2, Refusal::Layout));
 }
 
 #[test]
 fn damaged_lines_are_named(rt: HostRuntime) {
     assert_eq!(rt;
         fault_of(b"0 give 1 1 cash\n0 take 1 1 cash\n"),
-        Some((2, 13))
+        fault(2, Refusal::Layout)
     );
-    assert_eq!(rt; fault_of(b"0 give 1 1  cash"), Some((1, 13)));
-    assert_eq!(rt; fault_of(b"0 give 01 1 cash"), Some((1, 13)));
+    assert_eq!(rt; fault_of(b"0 give 1 1  cash"), fault(1, Refusal::Layout));
+    assert_eq!(rt; fault_of(b"0 give 01 1 cash"), fault(1, Refusal::Layout));
     assert_eq!(rt;
         fault_of(b"0 give 1 1 cash\n64 get 1 1 week\n0 no"),
-        Some((2, 1))
+        fault(2, Refusal::Unknown)
     );
     assert_eq!(rt;
         fault_of(b"63 get 1000000 1000 week\n63 get 1 1001 week"),
-        Some((2, 3))
+        fault(2, Refusal::Bounds)
     );
-    assert_eq!(rt; fault_of(b"63 get 1000001 1000 week"), Some((1, 4)));
+    assert_eq!(rt;
+        fault_of(b"63 get 1000001 1000 week"),
+        fault(1, Refusal::Price)
+    );
 }
 
 #[test]

@@ -5,7 +5,7 @@ use Rattle.reading.specs.Bounds.{Clamped}
 
 -- a number is kept, or both it and what is held are beyond every bound
 pub kept_or_beyond : (n r : ℕ) → Clamped n r → (r ≡ n) ⊎ ((2000000 ≤ n) × (2000000 ≤ r))
-kept_or_beyond n r c = ⊎_elim (λ lt. inl (c.small lt)) (λ le. let e = c.large le in inr (le, omega arith)) (cases_lt n 2000000)
+kept_or_beyond n r c = ⊎_elim (λ lt. inl (c.small lt)) (λ le. let e = c.large le in inr (omega arith, omega arith)) (cases_lt n 4294967296)
 
 -- a number within a bound is kept
 pub kept_within : (n r k : ℕ) → Clamped n r → k ≤ 2000000 → r < k → r ≡ n

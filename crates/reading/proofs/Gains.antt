@@ -13,7 +13,7 @@ use Rattle.text.proofs.Faults.{ok_from_at}
 use Rattle.layout.specs.Layout.{Slot, head, item, Says, rules, calls_for, with_line, nothing}
 use Rattle.layout.specs.Records.{Contents}
 use Rattle.layout.specs.Runs.{reads, ComesTo, ends, trails}
-use Rattle.reading.specs.Drafts.{so_far, Read, Halts, Gains, ReadsSection, ReadsItems}
+use Rattle.reading.specs.Drafts.{so_far, EntriesRead, Halts, Gains, ReadsSection, ReadsItems}
 use Rattle.reading.specs.Entries.{section_of, slot_of, many, without}
 use Rattle.reading.specs.Kinds.{of_kind}
 use Rattle.reading.specs.Reading.{Onward, Stops, Ends}
@@ -26,7 +26,7 @@ use Rattle.reading.proofs.Steps.{Lies, ruled}
 
 -- n entries were read
 abbrev pub Gained : Entry → ℕ → Draft → Draft → Type 0
-Gained e n a b = Read e (replicate n (slot_of e)) a b × (many e (so_far b) ≡ many e (so_far a) + n)
+Gained e n a b = EntriesRead e (replicate n (slot_of e)) a b × (many e (so_far b) ≡ many e (so_far a) + n)
 
 pub none_yet : (e : Entry) (a : Draft) → Gained e 0 a a
 none_yet e a = (record { onward = λ due o h. h; only = refl }, omega arith)

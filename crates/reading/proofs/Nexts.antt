@@ -1,9 +1,7 @@
 -- The next line of a text, read as a head, a name or a row of numbers.
-use Rattle.std.proofs.Common.{◌≡◌, ℕ, cond, eqb, List, ◌∷◌, Ok, Err, Result, sym, refl, ap, ◌∙◌, subst, Bor}
-use Rattle.std.proofs.lemmas.Result.{MatchResult-at_ok}
+use Rattle.std.proofs.Common.{◌≡◌, ℕ, cond, eqb, List, ◌∷◌, Ok, Err, Result, sym, refl, ap, ◌∙◌, subst, inl, inr, Bor}
 use Rattle.tables.specs.declared.refusal.Refusal.{Refusal}
-use Rattle.tables.specs.declared.refusal.Refusal.TheVariants.{Layout}
-use Rattle.text.specs.Faults.{fault_at, result_at}
+use Rattle.text.specs.Faults.{fault_at}
 use Rattle.text.specs.Lines.{Says}
 use Rattle.text.specs.Numbers.{spelt, Notation, Reads}
 use Rattle.text.specs.Readers.{Advanced, Halted}
@@ -12,32 +10,37 @@ use Rattle.text.specs.Sections.{letter}
 use Rattle.text.specs.declared.fault.Fault.{Fault}
 use Rattle.text.specs.declared.line.Line.{Line}
 use Rattle.text.specs.declared.line.Line.TheVariants as line
+use Rattle.text.specs.declared.line.Sort.{Sort}
 use Rattle.text.specs.declared.line.Sort.TheVariants as sort
 use Rattle.text.specs.declared.reader.Reader.{Reader}
-use Rattle.text.specs.declared.row.Row.{Row}
 use Rattle.text.specs.declared.section.Section.{Section}
 use Rattle.text.specs.declared.section.Section.TheVariants.{Kinds, Items, Members, Holdings, Offers, Levels}
 use Rattle.text.proofs.Cuts.{first_once}
-use Rattle.text.proofs.Faults.{ok_from_at, layout_fault}
-use Rattle.reading.specs.Reading.{Missing, IsHead, RowOf}
+use Rattle.reading.specs.Reading.{Missing, ReadNext, NextTaken, IsHead, RowOf}
+use Rattle.reading.specs.declared.next.Numbered.{Numbered}
 
--- where no line of the sort comes next, no x does
-pub missing : {L X : Type 0} {S : List ℕ → L → Type 0} (Is : List ℕ → X → Type 0) {before after : Reader} {f : Fault} → Halted S before after f → ((bytes : List ℕ) (x : X) → Is bytes x → (l : L) × S bytes l) → Missing Is before f
-missing Is h from = record { fault = h.fault; none = λ x bytes rest at i. let b = from bytes x i in h.none b.0 bytes rest at b.1 }
+-- what a call takes from the next line, where what it takes is an x just where the line is one
+module _ {X : Type 0} {s : Sort} {Taken : Line → Result X Refusal → Type 0} (Q : Line → X → Type 0) (Is : List ℕ → X → Type 0) (takes : (l : Line) (t : Result X Refusal) → Taken l t → Reads (Q l) t) (to : (l : Line) (bytes : List ℕ) → Says s bytes l → (x : X) → Q l x → Is bytes x) (from : (l : Line) (bytes : List ℕ) → Says s bytes l → (x : X) → Is bytes x → (y : X) × Q l y) (some : (bytes : List ℕ) (x : X) → Is bytes x → (l : Line) × Says s bytes l) {before after : Reader} where
+  -- no line of the sort comes next, and so no x
+  missing : {f : Fault} → Halted (Says s) before after f → Missing Is before f
+  missing h = record { fault = h.fault; none = λ x bytes rest at i. let b = some bytes x i in h.none b.0 bytes rest at b.1 }
 
--- the next line, read further
-pub refined : {L X : Type 0} {S : List ℕ → L → Type 0} (Q : L → X → Type 0) (Is : List ℕ → X → Type 0) {before after : Reader} (l : L) → Advanced S before after l → ((bytes : List ℕ) → S bytes l → (x : X) → Q l x → Is bytes x) → (line : ℕ) (r : Result X Refusal) → Reads (Q l) r → (x : X) → Ok x ≡ result_at line r → Advanced Is before after x
-refined Q Is l a to line r h x e =
-    record { line_bytes = a.line_bytes; ended = a.ended; is = to a.line_bytes a.is x (MatchResult-at_ok (Q l) _ x (ok_from_at line r x e) h); counted = a.counted }
+  -- one does, and is no x
+  unread : {f : Fault} (l : Line) → Advanced (Says s) before after l → Taken l (Err f.refusal) → f ≡ fault_at before.line f.refusal → Missing Is before f
+  unread {f} l a t e =
+      let g = takes l (Err f.refusal) t in
+      record {
+        fault = e ∙ ap (fault_at before.line) g.0;
+        none = λ x bytes rest at i. let b = from l bytes (subst (λ bs. Says s bs l) (first_once a.ended at).0 a.is) x i in g.1 b.0 b.1;
+      }
 
--- where it is no x, no x comes next
-pub unread : {L X : Type 0} {S : List ℕ → L → Type 0} (Q : L → X → Type 0) (Is : List ℕ → X → Type 0) {before after : Reader} (l : L) → Advanced S before after l → ((bytes : List ℕ) → S bytes l → (x : X) → Is bytes x → (y : X) × Q l y) → (line : ℕ) → line ≡ before.line → (r : Result X Refusal) → Reads (Q l) r → (f : Fault) → Err f ≡ result_at line r → Missing Is before f
-unread {S = S} Q Is {before} l a from line n r h f e =
-    let g = layout_fault (Q l) line r f e h in
-    record {
-      fault = g.0 ∙ ap (λ k. fault_at k Layout) n;
-      none = λ x bytes rest at i. let b = from bytes (subst (λ bs. S bs l) (first_once a.ended at).0 a.is) x i in g.1 b.0 b.1;
-    }
+  -- so an x is read
+  pub taken : (r : Result (Numbered X) Fault) → NextTaken s Taken before after r → ReadNext Is before after r
+  taken (Ok n) t =
+      let l = t.outcome.0 in
+      let a = t.outcome.1 in
+      (t.numbered, record { line_bytes = a.line_bytes; ended = a.ended; is = to l a.line_bytes a.is n.said (takes l (Ok n.said) t.outcome.2); counted = a.counted })
+  taken (Err f) t = elim t.outcome [ inl h ↦ missing h | inr p ↦ unread p.0 p.1 p.2 p.3 ]
 
 -- Heads
 
@@ -94,9 +97,3 @@ pub row_from : {X : Type 0} (notation : Notation X) (n : ℕ) (l : Line) (bytes 
 row_from notation n (line.Head s m) bytes p xs i = absurd (cc p.sorted)
 row_from notation n (line.Name x) bytes p xs i = absurd (cc p.sorted)
 row_from notation n (line.Row y) bytes p xs i = (xs, record { row = y; is = refl; spells = subst (λ bs. SpellsRow notation n bs xs) p.bytes_are i })
-
--- the numbers of a row are those of its line
-pub row_numbers : {X : Type 0} (notation : Notation X) (n : ℕ) (l : Line) (row : Row) → l ≡ line.Row row → (r : Result (List X) Refusal) → Reads (SpellsRow notation n row.bytes.now) r → Reads (RowOf notation n l) r
-row_numbers notation n l row e (Ok xs) h = record { row = row; is = e; spells = h }
-row_numbers notation n l row e (Err d) h =
-    (h.0, λ xs q. let s : line.Row row ≡ line.Row q.row = sym e ∙ q.is in let t : row ≡ q.row = cc in h.1 xs (subst (λ w. SpellsRow notation n w.bytes.now xs) (sym t) q.spells))

@@ -11,7 +11,7 @@ use Rattle.round.specs.Offering.{made}
 use Rattle.reading.specs.Held.{units_in, filled_offers, held}
 use Rattle.reading.specs.Kinds.{kind as kind_as}
 use Rattle.reading.specs.Levels.{numbers}
-use Rattle.reading.specs.Offers.{head_said, FairHead, give_lines, get_lines, with_part, LinesRead, LinesStop, OfferAdded}
+use Rattle.reading.specs.Offers.{head_said, FairHead, give_lines, get_lines, with_part, LinesRead, LinesStop, Takable, OfferAdded}
 use Rattle.reading.specs.Reading.{Onward, Stops}
 use Rattle.reading.specs.declared.kind.Kind.{Kind}
 use Rattle.reading.specs.declared.level.Level.{Level}
@@ -102,12 +102,18 @@ module _ {x : Contents} {units : List ℕ} {h : OfferHead} {items : ℕ} {before
       room : line_count (map offer_of x.offers) + (length lines + length lines') ≤ 256
       room = omega (arith, b.fair.room, lines_long g, lines_long w)
 
+      -- the round has room for it
+      pub takable : (old : Book) (ls ls' : List Line) → book_of x ≡ old → ls ≡ lines → ls' ≡ lines' → Takable old (made h.member h.limit ls ls')
+      takable old ls ls' e eg ew =
+          let whole : Takable (book_of x) that = record { fair = fair_offer; few = omega (arith, b.few, length-map x.offers offer_of); room = room } in
+          subst (λ c. Takable c (made h.member h.limit ls ls')) e (subst₂ (λ gs ws. Takable (book_of x) (made h.member h.limit gs ws)) (sym eg) (sym ew) whole)
+
       -- it is read, the round has taken it, and its units have come to the row
       pub all_read : (old held : Book) (ls ls' : List Line) (row : List ℕ) → book_of x ≡ old → ls ≡ lines → ls' ≡ lines' → OfferAdded old held (made h.member h.limit ls ls') → none ≡ [] → row ≡ units ++ units'' → OfferRead x before after held row
       all_read old held ls ls' row e eg ew added en er = record {
         said = this;
         onward = λ due o r. to_gets due o (w.onward (get_lines g.said) x (head_said h) due (b.known, g.lines_are ∙ sym same) o r);
-        holds = (λ i. record { items = x.items; members = x.members; holdings = x.holdings; offers = same_offers i }) ∙ sym (add fair_offer (omega (arith, b.few, length-map x.offers offer_of)) room);
+        holds = (λ i. record { items = x.items; members = x.members; holdings = x.holdings; offers = same_offers i }) ∙ sym add;
         row =
             units_push x.offers this
             ∙ (λ i. (b.row i ++ gives i) ++ map units_of w.said)

@@ -1,5 +1,5 @@
 -- Offers that keep the rules, and the round that takes them.
-use Rattle.std.proofs.Common.{◌≡◌, ℕ, ◌+◌, ◌<◌, ◌≤◌, ◌⊎◌, List, [], ◌∷◌, ◌++◌, map, length, get_or, set, None, Ok, Option, Result, refl, ap, ◌∙◌, subst, inl, inr, arith}
+use Rattle.std.proofs.Common.{◌≡◌, ℕ, ◌+◌, ◌<◌, ◌≤◌, ◌⊎◌, List, [], ◌∷◌, ◌++◌, map, length, get_or, set, None, Ok, Option, Result, is_ok, IsOk, refl, ap, ◌∙◌, subst, inl, inr, arith}
 use mathlib.Core.Logic.{∥∥₁_elim}
 use native.Mathlib.Bridge.{le_prop}
 use Rattle.std.proofs.ByRecursion.{All-get_or}
@@ -13,7 +13,7 @@ use Rattle.terms.specs.Lines.{EitherSide, Out}
 use Rattle.round.specs.Offering.{made, offering, TakesOffer, withdrawn, Withdraws}
 use Rattle.round.specs.Rounds.{book, with_offers}
 use Rattle.round.specs.declared.open_round.OpenRound.{OpenRound}
-use Rattle.reading.specs.Offers.{OfferAdded}
+use Rattle.reading.specs.Offers.{Takable, OfferAdded}
 
 pub few_items : (r : OpenRound) → length (book r).items ≤ 16
 few_items r = ∥∥₁_elim r.sound le_prop (λ s. s.items_few)
@@ -29,7 +29,10 @@ neither_side {n} o P f fair (inr (k, lt, at)) = f (get_or o.get k no_line) (All-
 once : (xs : List ℕ) → Distinct xs → Twice xs → ⊥
 once xs d (j, lj, i, lt, e) = d i j 0 lt lj (e 0)
 
-module _ (b : Book) (o : Offer) (fair : FairOffer (length b.items) (length b.members) o) (few : length b.offers < 64) (room : line_count b.offers + (length o.give + length o.get) ≤ 256) (least : 1 ≤ o.limit) where
+module _ (b : Book) (o : Offer) (t : Takable b o) (least : 1 ≤ o.limit) where
+  abbrev fair : FairOffer (length b.items) (length b.members) o
+  fair = t.fair
+
   -- nothing speaks against the offer
   none_against : (r : Option ℕ) → First (offering b o) r → r ≡ None
   none_against r h = ((((((h.1 known).1 full).1 bounds).1 price).1 twice).1 bare).1 fair.no_loop
@@ -39,8 +42,8 @@ module _ (b : Book) (o : Offer) (fair : FairOffer (length b.items) (length b.mem
       known (inr e) = neither_side o (λ l. length b.items ≤ l.item) (λ l f h. omega (arith, f.known)) fair e
 
       full : (64 ≤ length b.offers) ⊎ (256 < line_count b.offers + (length o.give + length o.get)) → ⊥
-      full (inl l) = omega arith
-      full (inr l) = omega arith
+      full (inl l) = omega (arith, t.few)
+      full (inr l) = omega (arith, t.room)
 
       within : (n : ℕ) → 1 ≤ n → n ≤ 1000 → Out n → ⊥
       within n l m (inl h) = omega arith
@@ -62,24 +65,24 @@ module _ (b : Book) (o : Offer) (fair : FairOffer (length b.items) (length b.mem
       bare (inr e) = omega (arith, fair.gets.some)
 
   -- so the round takes it
-  pub taken : (after : Book) (r : Result ℕ Refusal) → TakesOffer b after o r → (k : ℕ) × (r ≡ Ok k) × ((k ≡ length b.offers) × (after ≡ with_offers b (b.offers ++ o ∷ [])))
-  taken after r t = accepted _ _ r (none_against (refusal r) t.refused) t.outcome
-
--- an offer that is made with its limit
-pub added : (b after : Book) (o : Offer) (r : Result ℕ Refusal) → TakesOffer b after o r → 1 ≤ o.limit → OfferAdded b after o
-added b after o r t least fair few room = (taken b o fair few room least after r t).2.1
+  pub taken : (after : Book) (r : Result ℕ Refusal) → TakesOffer b after o r → IsOk r
+  taken after r h = ap is_ok (accepted _ _ r (none_against (refusal r) h.refused) h.outcome).1
 
 -- one whose limit is 0
 module _ (b : Book) (member limit : ℕ) (give get : List Line) (none : limit ≤ 0) where
   abbrev at_first : Offer
   at_first = made member 1 give get
 
-  fair_first : FairOffer (length b.items) (length b.members) (made member limit give get) → FairOffer (length b.items) (length b.members) at_first
-  fair_first f = record { known = f.known; most = omega arith; gives = f.gives; gets = f.gets; no_loop = f.no_loop }
+  pub takable_first : Takable b (made member limit give get) → Takable b at_first
+  takable_first t = record { fair = record { known = t.fair.known; most = omega arith; gives = t.fair.gives; gets = t.fair.gets; no_loop = t.fair.no_loop }; few = t.few; room = t.room }
 
-  last_withdrawn : (os : List Offer) (after : Book) (r : Result (Unit {0}) Refusal) → Withdraws (with_offers b (os ++ at_first ∷ [])) after (length os) r → after ≡ with_offers b (os ++ made member limit give get ∷ [])
-  last_withdrawn os after r w =
+  -- it is withdrawn after it was added
+  pub last_withdrawn : (middle after : Book) (k : ℕ) (q : Result ℕ Refusal) (r : Result (Unit {0}) Refusal) → TakesOffer b middle at_first q → q ≡ Ok k → Withdraws middle after k r → OfferAdded b after (made member limit give get)
+  last_withdrawn middle after k q r h e v =
+      let os = b.offers in
       let all = os ++ at_first ∷ [] in
+      let t = subst (λ q. TakesOffer b middle at_first q) e h in
+      let w : Withdraws (with_offers b all) after (length os) r = subst (λ i. Withdraws (with_offers b all) after i r) t.outcome.0 (subst (λ c. Withdraws c after k r) t.outcome.1 v) in
       let at : get_or all (length os) no_offer ≡ at_first = get_or_push os at_first no_offer (length os) refl in
       let here : refusal r ≡ None = (w.refused.1 (λ h. omega (arith, length_push os at_first))).1 (λ h. omega (arith, ap (λ o. o.limit) at)) in
       let zero : 0 ≡ limit = omega arith in
@@ -87,14 +90,3 @@ module _ (b : Book) (member limit : ℕ) (give get : List Line) (none : limit �
       ∙ ap (λ o. with_offers b (set all (length os) (withdrawn o))) at
       ∙ ap (with_offers b) (set_at os at_first [] (withdrawn at_first) (length os) refl)
       ∙ ap (λ n. with_offers b (os ++ made member n give get ∷ [])) zero
-
-  pub added_withdrawn : (middle after : Book) (k : ℕ) (r : Result (Unit {0}) Refusal) → TakesOffer b middle at_first (Ok k) → Withdraws middle after k r → OfferAdded b after (made member limit give get)
-  added_withdrawn middle after k r t w fair few room =
-      let made-is = t.outcome in
-      let v = subst (λ c. Withdraws c after k r) made-is.1 w in
-      last_withdrawn b.offers after r (subst (λ i. Withdraws (with_offers b (b.offers ++ at_first ∷ [])) after i r) made-is.0 v)
-
-  pub never_refused : (after : Book) (r : Result ℕ Refusal) → TakesOffer b after at_first r → ((k : ℕ) → r ≡ Ok k → ⊥) → OfferAdded b after (made member limit give get)
-  never_refused after r t not fair few room =
-      let h = taken b at_first (fair_first fair) few room (omega arith) after r t in
-      absurd (not h.0 h.1)

@@ -1,7 +1,7 @@
 -- Numbers that are beyond every bound.
 use Rattle.std.specs.Prelude.{◌≡◌, ℕ, ◌<◌, ◌≤◌}
 
--- r is n below 2,000,000, and 2,000,000 from there on
+-- r is n where 32 bits hold it, and the largest number that they hold where they do not
 pub record Clamped (n r : ℕ) : Type 0 where
-  pub small : n < 2000000 → r ≡ n
-  pub large : 2000000 ≤ n → r ≡ 2000000
+  pub small : n < 4294967296 → r ≡ n
+  pub large : 4294967296 ≤ n → r ≡ 4294967295

@@ -18,7 +18,7 @@ abbrev pub so_far : Draft → Contents
 so_far d = held d.kind (book d.round) d.units d.levels
 
 -- these lines were read, and nothing but the entries of this sort has changed
-pub record Read (e : Entry) (lines : List Slot) (before after : Draft) : Type 0 where
+pub record EntriesRead (e : Entry) (lines : List Slot) (before after : Draft) : Type 0 where
   pub onward : (due : List Slot) → Onward (lines ++ due) (so_far before) before.reader due (so_far after) after.reader
   pub only : without e (so_far after) ≡ without e (so_far before)
 
@@ -28,11 +28,11 @@ Halts lines before f = (due : List Slot) → Stops (lines ++ due) (so_far before
 
 -- n entries of this sort were read; or the text is refused in one of them
 abbrev pub Gains : Entry → ℕ → Draft → Draft → Result (Unit {0}) Fault → Type 0
-Gains e n before after r = MatchResult r (λ _. Read e (replicate n (slot_of e)) before after × (many e (so_far after) ≡ many e (so_far before) + n)) (λ f. Halts (replicate n (slot_of e)) before f)
+Gains e n before after r = MatchResult r (λ _. EntriesRead e (replicate n (slot_of e)) before after × (many e (so_far after) ≡ many e (so_far before) + n)) (λ f. Halts (replicate n (slot_of e)) before f)
 
 -- the section of these entries was read; or the text is refused in it
 abbrev pub ReadsSection : Entry → Draft → Draft → Result (Unit {0}) Fault → Type 0
-ReadsSection e before after r = MatchResult r (λ _. Read e (head (section_of e) ∷ []) before after) (λ f. Halts (head (section_of e) ∷ []) before f)
+ReadsSection e before after r = MatchResult r (λ _. EntriesRead e (head (section_of e) ∷ []) before after) (λ f. Halts (head (section_of e) ∷ []) before f)
 
 -- the section of the items was read after these contents, which have none; or the text is refused in it
 abbrev pub ReadsItems : Reader → Contents → Result Draft Fault → Type 0

@@ -103,6 +103,12 @@ pub record LinesRead (items : ℕ) (gs : List Line) (n : ℕ) (lines : List Line
 abbrev pub LinesStop : ℕ → List Line → ℕ → Reader → Fault → Type 0
 LinesStop items gs n before f = (p : Part) (x : Contents) (h : HeadOfOffer) (due : List Slot) → Within p x items gs → Stops (replicate n (slot p) ++ due) (with_part p x h []) before f
 
--- an offer that keeps the rules comes to the end of a book, where there is room for it
+-- an offer that keeps the rules of a book, with room for it there; a withdrawn one has the limit 0
+pub record Takable (b : Book) (o : Offer) : Type 0 where
+  pub fair : FairOffer (length b.items) (length b.members) o
+  pub few : length b.offers < 64
+  pub room : line_count b.offers + (length o.give + length o.get) ≤ 256
+
+-- the offer comes to the end of a book
 abbrev pub OfferAdded : Book → Book → Offer → Type 0
-OfferAdded before after o = FairOffer (length before.items) (length before.members) o → length before.offers < 64 → line_count before.offers + (length o.give + length o.get) ≤ 256 → after ≡ book_with before (before.offers ++ o ∷ [])
+OfferAdded before after o = after ≡ book_with before (before.offers ++ o ∷ [])

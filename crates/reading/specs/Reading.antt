@@ -1,17 +1,19 @@
 -- Reading the lines of a record one by one.
-use Rattle.std.specs.Prelude.{◌≡◌, ℕ, ◌≤◌, List, [], ◌∷◌, ◌++◌, length, ◌≢◌, Result, MatchResult}
+use Rattle.std.specs.Prelude.{◌≡◌, ℕ, ◌≤◌, ◌⊎◌, List, [], ◌∷◌, ◌++◌, length, ◌≢◌, IfOk, Ok, Err, Result, MatchResult}
 use Rattle.tables.specs.Refusals.{number}
 use Rattle.tables.specs.declared.refusal.Refusal.{Refusal}
 use Rattle.tables.specs.declared.refusal.Refusal.TheVariants.{Layout}
 use Rattle.text.specs.Faults.{fault_at}
+use Rattle.text.specs.Lines.{Says as SaysLine}
 use Rattle.text.specs.Numbers.{spelt, Notation}
 use Rattle.text.specs.Parts.{FirstAt}
-use Rattle.text.specs.Readers.{Advanced}
+use Rattle.text.specs.Readers.{Advanced, Halted}
 use Rattle.text.specs.Rows.{SpellsRow}
 use Rattle.text.specs.Sections.{letter}
 use Rattle.text.specs.declared.fault.Fault.{Fault}
 use Rattle.text.specs.declared.line.Line.{Line}
 use Rattle.text.specs.declared.line.Line.TheVariants.{Row as IsRow}
+use Rattle.text.specs.declared.line.Sort.{Sort}
 use Rattle.text.specs.declared.reader.Reader.{Reader}
 use Rattle.text.specs.declared.row.Row.{Row}
 use Rattle.text.specs.declared.section.Section.{Section}
@@ -28,6 +30,11 @@ pub record Missing {X : Type 0} (Is : List ℕ → X → Type 0) (before : Reade
 -- the outcome of reading the next line as an x, with the line's number
 abbrev pub ReadNext : {X : Type 0} → (List ℕ → X → Type 0) → Reader → Reader → Result (Numbered X) Fault → Type 0
 ReadNext Is before after r = MatchResult r (λ n. (n.line ≡ before.line) × Advanced Is before after n.said) (λ f. Missing Is before f)
+
+-- the next line is of this sort, and a call took something from it, with the line's number; or there is no such line, or the call refused it
+pub record NextTaken {X : Type 0} (sort : Sort) (Taken : Line → Result X Refusal → Type 0) (before after : Reader) (r : Result (Numbered X) Fault) : Type 0 where
+  pub numbered : IfOk r (λ n. n.line ≡ before.line)
+  pub outcome : MatchResult r (λ n. (l : Line) × Advanced (SaysLine sort) before after l × Taken l (Ok n.said)) (λ f. Halted (SaysLine sort) before after f ⊎ ((l : Line) × Advanced (SaysLine sort) before after l × Taken l (Err f.refusal) × (f ≡ fault_at before.line f.refusal)))
 
 -- the bytes are the head of the section, with a count of at most 13 digits
 abbrev pub IsHead : Section → List ℕ → ℕ → Type 0

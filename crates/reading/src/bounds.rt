@@ -4,5 +4,5 @@ ghost use Rattle.reading.specs.Bounds.{Clamped};
 pub(crate) fn clamp(n: u64) -> u32
     ensures { Clamped n result }
 {
-    n.min(2_000_000) as u32
+    u32::try_from(n).unwrap_or(u32::MAX)
 }

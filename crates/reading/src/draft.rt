@@ -16,6 +16,7 @@ mod offers;
 mod sections;
 
 // What has been read so far of a record, and what is left of its text.
+// It stands beside `Record`, which keeps all rules; a draft keeps them not before its last line.
 #[derive(Drop)]
 pub(crate) struct Draft<'a> {
     reader: Reader<'a>,

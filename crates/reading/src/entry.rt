@@ -12,6 +12,7 @@ use text::reader::Reader;
 use text::section::Section;
 
 // The sorts of entries that a record lists, each in a section of its own.
+// The kind's section lists no entries, so that with `Section` each table here would have a case that cannot come.
 #[derive(Clone, Copy)]
 pub(crate) enum Entry {
     Item,

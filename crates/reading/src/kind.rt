@@ -1,12 +1,22 @@
-ghost use Rattle.reading.specs.Kinds.{WithParts};
+ghost use Rattle.std.specs.Prelude.{◌≡◌};
+ghost use Rattle.reading.specs.Kinds.{WithParts, count_of};
 
 use tables::refusal::Refusal;
 
-// The kinds of worth that records have.
+// The kinds of worth that records have, each with the number of its parts.
 #[derive(Clone, Copy, Debug, PartialEq, Eq)]
 pub enum Kind {
-    Money,
-    MoneyThenWeeks,
+    Money = 1,
+    MoneyThenWeeks = 2,
+}
+
+impl Kind {
+    // How many parts the kind has.
+    pub fn parts(self) -> usize
+        ensures { result ≡ count_of self }
+    {
+        self as usize
+    }
 }
 
 // The kind with so many parts.

@@ -2,7 +2,7 @@ ghost use Rattle.std.specs.Prelude.{◌≡◌, nat_le};
 ghost use Rattle.text.specs.Numbers.{signed};
 ghost use Rattle.text.specs.Rows.{SpellsRow};
 ghost use Rattle.layout.specs.Layout.{level as a_level};
-ghost use Rattle.layout.specs.Records.{Contents, parts, level_size};
+ghost use Rattle.layout.specs.Records.{by_money, by_money_then_weeks, Contents, parts, level_size};
 ghost use Rattle.reading.specs.Kinds.{kind as kind_as};
 ghost use Rattle.reading.specs.Levels.{numbers, LevelTested};
 ghost use Rattle.reading.specs.Reading.{ReadNext, LineRead};
@@ -17,6 +17,22 @@ use worth::kind::Worth;
 use worth::lexicographic::Lexicographic;
 use worth::money::Money;
 use worth::weeks::Weeks;
+
+// The level of a row of one number. It is no closure, since of one that takes an array nothing is inferred.
+fn in_money(row: [i64; 1]) -> Level
+    ensures { numbers by_money result ≡ row }
+{
+    let [cents] = row;
+    Level { cents, weeks: 0 }
+}
+
+// The level of a row of two, likewise.
+fn in_both(row: [i64; 2]) -> Level
+    ensures { numbers by_money_then_weeks result ≡ row }
+{
+    let [cents, weeks] = row;
+    Level { cents, weeks }
+}
 
 impl Kind {
     // Whether the size of a level is at most 1,000,000.
@@ -50,22 +66,8 @@ impl Kind {
         ensures { ReadNext (λ bytes l. SpellsRow signed (parts (kind_as self)) bytes (numbers (kind_as self) l)) reader.old reader.new result }
     {
         match self {
-            Kind::Money => {
-                let row = next_row::<i64, 1>(reader)?;
-                let [cents] = row.said;
-                Ok(Numbered {
-                    line: row.line,
-                    said: Level { cents, weeks: 0 },
-                })
-            }
-            Kind::MoneyThenWeeks => {
-                let row = next_row::<i64, 2>(reader)?;
-                let [cents, weeks] = row.said;
-                Ok(Numbered {
-                    line: row.line,
-                    said: Level { cents, weeks },
-                })
-            }
+            Kind::Money => Ok(next_row(reader)?.map(in_money)),
+            Kind::MoneyThenWeeks => Ok(next_row(reader)?.map(in_both)),
         }
     }
 

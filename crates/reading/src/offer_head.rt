@@ -1,7 +1,6 @@
 ghost use Rattle.std.specs.Prelude.{◌≡◌, ◌+◌, ◌<◌, map, length, IfOk, Decides};
-ghost use Rattle.tables.specs.Refusals.{First, refusal};
 ghost use Rattle.book.specs.Books.{line_count};
-ghost use Rattle.layout.specs.Layout.{offer, rules};
+ghost use Rattle.layout.specs.Layout.{offer};
 ghost use Rattle.layout.specs.Records.{Contents, offer_of};
 ghost use Rattle.reading.specs.Offers.{head_said, FairHead, HeadTested};
 ghost use Rattle.reading.specs.Reading.{LineRead};
@@ -53,6 +52,7 @@ fn test_head(numbers: [u64; 4], members: u32, lines: usize) -> Result<OfferHead,
 }
 
 // The head on the next line, of an offer by one of so many members below so many lines.
+// `Numbered::test` would be no plainer: of a closure that takes an array nothing is inferred, so that it would state `HeadTested` once more.
 pub(crate) fn next_offer_head(
     reader: &mut Reader<'_>,
     members: u32,

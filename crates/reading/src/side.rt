@@ -1,7 +1,5 @@
-ghost use Rattle.std.specs.Prelude.{◌≡◌, ◌+◌, ◌<◌, ◌≤◌, List, [], ◌∷◌, ◌++◌, map, length, IfOk, MatchResult};
-ghost use Rattle.tables.specs.Refusals.{when, First, refusal};
-ghost use Rattle.book.specs.Books.{Loop};
-ghost use Rattle.layout.specs.Layout.{HeadOfOffer, line_rules};
+ghost use Rattle.std.specs.Prelude.{◌≡◌, ◌+◌, ◌≤◌, List, map, length, IfOk, MatchResult};
+ghost use Rattle.layout.specs.Layout.{HeadOfOffer};
 ghost use Rattle.layout.specs.Records.{Contents, LineWithUnits, line_of};
 ghost use Rattle.reading.specs.Offers.{FairBelow, LineTested, Part, Within, LineAdded, LinesRead, LinesStop};
 
@@ -20,19 +18,21 @@ pub(crate) struct FilledLine {
     pub(crate) units: u32,
 }
 
-// A side of an offer over so many items: what it gets for these lines, or, where there are none, what it gives.
+// A side of an offer over so many items, and the lines that the other side has so far.
+// What it gives is read first, when there are none of these yet. So the test for cash on both sides is one for either.
 #[derive(Clone, Copy)]
 pub(crate) struct Side<'a> {
     pub(crate) items: u32,
-    pub(crate) give: &'a [Line],
+    pub(crate) other: &'a [Line],
 }
 
 impl Side<'_> {
     // The line that has these numbers, or the first rule that they break. `above` has the lines of the side so far.
     fn test_line(self, numbers: [u64; 4], above: &[Line]) -> Result<FilledLine, Refusal>
-        ensures { LineTested self.entry.items self.entry.give.now above.now numbers result }
+        ensures { LineTested self.entry.items self.entry.other.now above.now numbers result }
     {
         let [item, limit, price, units] = numbers;
+        // The bounds are tested before the numbers, of up to 13 digits, are cut to the 32 bits of a line; those of `terms` take what is cut already.
         if item >= u64::from(self.items) {
             return Err(Refusal::Unknown);
         }
@@ -50,7 +50,7 @@ impl Side<'_> {
         if has_item(above, line.item) {
             return Err(Refusal::Double);
         }
-        if is_loop(self.give, &[line]) {
+        if is_loop(self.other, &[line]) {
             return Err(Refusal::Loop);
         }
         Ok(FilledLine {
@@ -59,10 +59,10 @@ impl Side<'_> {
         })
     }
 
-    // The next line, as one of the side below these.
+    // The next line, as one of the side below these. `Numbered::test` would be no plainer, as at the head of an offer.
     fn next_line(self, reader: &mut Reader<'_>, above: &[Line]) -> Result<FilledLine, Fault>
-        ensures fair { IfOk result (λ l. FairBelow self.entry.items self.entry.give.now above.now l.line) }
-        ensures read { (p : Part) (x : Contents) (h : HeadOfOffer) (ls : List LineWithUnits) → Within p x self.entry.items self.entry.give.now → map line_of ls ≡ above.now → LineAdded p x h ls reader.old reader.new result }
+        ensures fair { IfOk result (λ l. FairBelow self.entry.items self.entry.other.now above.now l.line) }
+        ensures read { (p : Part) (x : Contents) (h : HeadOfOffer) (ls : List LineWithUnits) → Within p x self.entry.items self.entry.other.now → map line_of ls ≡ above.now → LineAdded p x h ls reader.old reader.new result }
     {
         let row = next_row::<u64, 4>(reader)?;
         at_line(row.line, self.test_line(row.said, above))
@@ -76,13 +76,13 @@ impl Side<'_> {
         units: &mut Table<u32, 256>,
     ) -> Result<Table<Line, 256>, Fault>
         requires { length units.old + n ≤ 256 }
-        ensures { MatchResult result (λ lines. LinesRead self.entry.items self.entry.give.now n lines units.old units.new reader.old reader.new) (λ f. LinesStop self.entry.items self.entry.give.now n reader.old f) }
+        ensures { MatchResult result (λ lines. LinesRead self.entry.items self.entry.other.now n lines units.old units.new reader.old reader.new) (λ f. LinesStop self.entry.items self.entry.other.now n reader.old f) }
     {
         let mut lines = Table::default();
         for _ in 0..n {
             let filled = self.next_line(reader, lines.as_slice())?;
-            let _ = lines.push(filled.line);
-            let _ = units.push(filled.units);
+            lines.push(filled.line).unwrap();
+            units.push(filled.units).unwrap();
         }
         Ok(lines)
     }

@@ -37,6 +37,7 @@ use Rattle.round.specs.Rounds.{book}
 use Rattle.round.specs.declared.open_round.OpenRound.{OpenRound}
 use Rattle.record.specs.Checks.{total_by, result_of, failing, Tested, Answered, Fails}
 use Rattle.record.specs.Evidence.{network_of, Passes}
+use Rattle.record.specs.Levels.{Levelled}
 use Rattle.record.specs.Networks.{Exceeds}
 use Rattle.record.specs.declared.passed.Passed.{Passed}
 use Rattle.record.specs.declared.passed.Total.{Total}
@@ -102,6 +103,15 @@ few_levels x v = ⊎_elim (λ e. omega arith) (λ e. omega (arith, e, v.sound.it
 -- and so has what was read
 pub levels_few : (r : Record) (ls : List Level) → map (numbers (contents r).kind) ls ≡ (contents r).levels → length ls ≤ 272
 levels_few r ls e = let few : length (contents r).levels ≤ 272 = ∥∥₁_elim r.valid le_prop (few_levels (contents r)) in omega (arith, few, ap length e, length-map ls (numbers (contents r).kind))
+
+-- levels come back from the worths that they stand for
+levels_again : {W : Type 0} {o : Ops W} {k : Kind} {level : W → Level} {worth : Level → W} → Levelled o k level worth → (ls : List Level) → map (λ w. numbers k (level w)) (map worth ls) ≡ map (numbers k) ls
+levels_again told [] = refl
+levels_again told (l ∷ ls) = let first = told.again l in let rest = levels_again told ls in (λ i. first i ∷ rest i)
+
+-- so the levels that were read are those of the worths that they stand for
+pub levels_read : {W : Type 0} {o : Ops W} {k : Kind} {level : W → Level} {worth : Level → W} → Levelled o k level worth → {j : Kind} → j ≡ k → (ls : List Level) {zs : List (List ℤ)} → map (numbers j) ls ≡ zs → (ws : List W) → ws ≡ map worth ls → map (λ w. numbers k (level w)) ws ≡ zs
+levels_read {k = k} {level = level} told ej ls e ws ew = ap (map (λ w. numbers k (level w))) ew ∙ levels_again told ls ∙ ap (λ j. map (numbers j) ls) (sym ej) ∙ e
 
 -- what is read keeps the rules
 pub valid_read : (text : List ℕ) (x : Contents) → Reads text x → Valid x

@@ -92,17 +92,25 @@ row_shown v =
     let got = units_back v.offer.get.now v.got.now v.gets.long in
     (λ i. given i ++ (sum (given i) ∷ got i))
 
--- the flows of one offer, added in three parts
+-- where there is room, a table is longer by what was added
+pub longer : (before after more : List ℕ) (r : Result (Unit {0}) Refusal) → Added 448 before after more r → length before + length more ≤ 448 → length after ≡ length before + length more
+longer before after more r a h = ap length (grew 448 before after more r a h) ∙ length-append before more
+
+-- there is room for the flows of one offer in three parts
+pub parts_fit : (v : FilledOffer) (n : ℕ) → n + length (flow_row (filled v)) ≤ 448 → n + (length v.given.now + (1 + length v.got.now)) ≤ 448
+parts_fit v n room = omega (arith, ap length (row_shown v), length-append v.given.now (sum v.given.now ∷ v.got.now))
+
+-- and so they are added
 pub offer_added : (v : FilledOffer) (y : ℕ) → y ≡ sum v.given.now → (a b c d : List ℕ) (r s t : Result (Unit {0}) Refusal) → length a + length (flow_row (filled v)) ≤ 448 → Added 448 a b v.given.now r → Added 448 b c (y ∷ []) s → Added 448 c d v.got.now t → d ≡ a ++ flow_row (filled v)
 offer_added v y ey a b c d r s t room ab bc cd =
     let given = v.given.now in
     let got = v.got.now in
     let row : flow_row (filled v) ≡ given ++ (y ∷ got) = row_shown v ∙ ap (λ n. given ++ (n ∷ got)) (sym ey) in
-    let few : length a + (length given + (1 + length got)) ≤ 448 = omega (arith, ap length row, length-append given (y ∷ got)) in
+    let few = parts_fit v (length a) room in
     let eb = grew 448 a b given r ab (omega arith) in
-    let lb = ap length eb ∙ length-append a given in
+    let lb = longer a b given r ab (omega arith) in
     let ec = grew 448 b c (y ∷ []) s bc (omega arith) in
-    let lc = ap length ec ∙ length-append b (y ∷ []) in
+    let lc = longer b c (y ∷ []) s bc (omega arith) in
     grew 448 c d got t cd (omega arith) ∙ ap (λ ys. ys ++ got) (ec ∙ ap (λ ys. ys ++ y ∷ []) eb) ∙ append_assoc (a ++ given) (y ∷ []) got ∙ append_assoc a given (y ∷ got) ∙ ap (λ ys. a ++ ys) (sym row)
 
 rows_few : (os : List OfferWithUnits) → length (flat_map flow_row os) ≡ length (units_in os) + length os

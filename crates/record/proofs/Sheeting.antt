@@ -1,11 +1,10 @@
 -- Sheets, and the records that clear them.
-use Rattle.std.proofs.Common.{◌≡◌, ℕ, ◌+◌, ◌<◌, ◌≤◌, Bool, true, false, List, [], ◌∷◌, map, length, get_or, take, ℤ, Some, Ok, Err, Result, Decides, MatchBool, sym, refl, ◌∙◌, subst, ⊎_elim, arith}
+use Rattle.std.proofs.Common.{◌≡◌, ℕ, ◌<◌, ◌≤◌, List, [], ◌∷◌, map, length, take, ℤ, Some, Ok, Err, Result, sym, refl, subst, ⊎_elim, arith}
 use lib.ListN.{length-map}
-use Rattle.std.specs.List.{AllByRecursion, AllWithin, HoldsAt, range_with_len}
-use Rattle.std.proofs.ByRecursion.{All-append, All-from_get_or, All-get_or, All-map}
-use Rattle.std.proofs.lemmas.List.FromFn.{get_or-range_with_len, length-range_with_len}
+use Rattle.std.specs.List.{AllByRecursion}
+use Rattle.std.proofs.ByRecursion.{All-append, All-map}
 use Rattle.std.proofs.lemmas.List.{get_or-take, length-take-le}
-use Rattle.std.proofs.lemmas.Bool.{both_ways, cases_lt}
+use Rattle.std.proofs.lemmas.Bool.{cases_lt}
 use Rattle.tables.specs.Refusals.{when, First, number}
 use Rattle.tables.specs.declared.refusal.Refusal.{Refusal}
 use Rattle.worth.specs.Kinds.{Ops, Laws}
@@ -16,7 +15,7 @@ use Rattle.network.specs.Potentials.{potential, Fitted}
 use Rattle.search.specs.Outcomes.{Clearing}
 use Rattle.book.specs.Allotments.{Allotment, Allowed}
 use Rattle.book.specs.Arcs.{nodes, net_of, filled}
-use Rattle.book.specs.Books.{Book, Offer, Any, Sound, no_offer}
+use Rattle.book.specs.Books.{Book, Any, Sound}
 use Rattle.book.proofs.Each.{all_left, all_right}
 use Rattle.book.proofs.Sizes.{graph_sound}
 use Rattle.layout.specs.Records.{Kind, OfferWithUnits, units_of, offer_of}
@@ -33,21 +32,6 @@ use Rattle.record.specs.Levels.{Levelled}
 use Rattle.record.specs.Sheets.{Unfilled, Clears, PageShort, ClearedRound}
 use Rattle.record.proofs.Filing.{first_levels, worths_over, levels_fair, long_levels}
 use Rattle.record.proofs.Passing.{same_graph, fits_alike, passes}
-
-at_number : (n k : ℕ) → k < n → get_or (range_with_len 0 n) k 0 ≡ k
-at_number n k lt = let z : 0 + k ≡ k = omega arith in get_or-range_with_len 0 n k 0 lt ∙ z
-
--- the test of every number below the count tells whether all offers stand
-pub standing_decides : (os : List Offer) (n : ℕ) → n ≡ length os → (r : Bool) → MatchBool r (AllWithin (λ k. 0 < (get_or os k no_offer).limit) (range_with_len 0 n) 0 (length (range_with_len 0 n))) ((k : ℕ) × (k < length (range_with_len 0 n)) × HoldsAt (λ k. (get_or os k no_offer).limit ≡ 0) (range_with_len 0 n) k) → Decides r (AllByRecursion (λ o. 0 < o.limit) os)
-standing_decides os n e true all = (
-  λ _. All-from_get_or (λ o. 0 < o.limit) os no_offer (λ i lt. subst (λ k. 0 < (get_or os k no_offer).limit) (at_number n i (omega arith)) (all i 0 (omega arith) (omega (arith, length-range_with_len 0 n)))),
-  λ _. refl,
-)
-standing_decides os n e false (k, lt, none) =
-    let there : k < n = omega (arith, lt, length-range_with_len 0 n) in
-    let known : k < length os = omega (arith, there, e) in
-    let limit : (get_or os k no_offer).limit ≡ 0 = subst (λ j. (get_or os j no_offer).limit ≡ 0) (at_number n k there) (none 0) in
-    (λ t. absurd (both_ways false refl t), λ all. absurd (omega (arith, limit, All-get_or (λ o. 0 < o.limit) os k no_offer known all)))
 
 all_from_map : {X Y : Type 0} (P : Y → Type 0) (f : X → Y) (xs : List X) → AllByRecursion P (map f xs) → AllByRecursion (λ x. P (f x)) xs
 all_from_map P f [] h = tt

@@ -1,9 +1,10 @@
-ghost use Rattle.std.specs.Prelude.{◌≡◌, ◌*◌, ◌^◌, ◌<◌, ◌≤◌, map, length, take};
-ghost use Rattle.std.specs.Mem.{type_size};
+ghost use Rattle.std.specs.Prelude.{◌≡◌, ◌≤◌, map, length};
+ghost use Rattle.std.specs.Mem.{FitsInMemory};
+ghost use denote.Param.{number};
+ghost use Rattle.tables.specs.contracts.table.Table.{the_row as table_row};
 ghost use Rattle.book.specs.Rows.{map_with};
 ghost use Rattle.layout.specs.Records.{Valid};
 ghost use Rattle.reading.specs.Contents.{contents};
-ghost use Rattle.reading.specs.Levels.{numbers};
 ghost use Rattle.round.specs.Closed.{closed_book, closed_allotment};
 ghost use Rattle.record.specs.Checks.{result_of, Tested, Checks};
 ghost use Rattle.record.specs.Evidence.{Evidence};
@@ -25,42 +26,41 @@ use worth::lexicographic::Lexicographic;
 use worth::money::Money;
 use worth::weeks::Weeks;
 
-// Puts the worths that levels stand for in the first places of a table, place by place: std does not say what a `zip` with `iter_mut` has written.
-fn put_worths<W: Levelled>(levels: &[Level], table: &mut [W])
-    requires { length levels.now ≤ length table.old }
-    ensures { map (λ w. numbers W.Levelled.sort (W.Levelled.level w)) (take (length levels.now) table.new) ≡ map (numbers W.Levelled.sort) levels.now }
+// The worths that levels stand for, of which a record has at most one for each of 272 nodes.
+fn worths<W: Levelled>(levels: &[Level]) -> Table<W, 272>
+    requires { length levels.now ≤ 272 }
+    ensures { result ≡ map W.Levelled.worth levels.now }
 {
-    for (i, l) in levels.iter().enumerate() {
-        table[i] = W::from_level(*l);
+    let mut worths = Table::new(W::none());
+    for level in levels {
+        worths.push(W::from_level(*level)).unwrap();
     }
+    worths
 }
 
-// Each offer's payoff and weeks got, which are asked for by its number.
+// Each offer's payoff and weeks got, which a closed round answers by the offer's number.
 fn results<W: Worth>(round: &ClosedRound<W>) -> Table<OfferResult, 64>
     ensures { result ≡ map_with result_of (closed_book round.now).offers (closed_allotment round.now) }
 {
     let mut results = Table::default();
     for k in 0..round.terms().offer_count() {
         let answer = round.payoff(k).unwrap();
-        let _ = results.push(answer.into());
+        results.push(answer.into()).unwrap();
     }
     results
 }
 
 // What check answers of a record of this kind, where its allotment is allowed and its levels fit. The table of its worths fits in memory.
 fn check_by<W: Levelled + Into<Total>>(read: Record) -> Result<Passed, Refusal>
-    requires { 272 * type_size W.row < 2 ^ 63 }
+    requires { FitsInMemory (table_row W.row (number 272)) }
     ensures { Valid (contents read) → (contents read).kind ≡ W.Levelled.sort → Tested W.Worth.ops W.Into.converts (contents read) result }
 {
-    let mut worths = [W::none(); 272];
-    let levels = read.levels();
-    let count = levels.len();
-    put_worths(levels, &mut worths);
+    let worths = worths::<W>(read.levels());
     let net = draw::<W>(read)?;
     if !is_circulation(&net) {
         return Err(Refusal::Rule);
     }
-    if !fits(&net, &worths[..count]) {
+    if !fits(&net, worths.as_slice()) {
         return Err(Refusal::Unfit);
     }
     Ok(Passed {
@@ -75,6 +75,7 @@ pub fn check(text: &[u8]) -> Result<Passed, Fault>
     ensures law { Evidence }
 {
     let read = Record::read(text)?;
+    // each kind of worth is a type of its own, and the kind that the text names picks it here: the two calls differ in what they do by it
     let tested = match read.kind() {
         Kind::Money => check_by::<Money>(read),
         Kind::MoneyThenWeeks => check_by::<Lexicographic<Money, Weeks>>(read),

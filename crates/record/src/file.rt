@@ -17,7 +17,7 @@ mod lines;
 mod offers;
 mod sections;
 
-// Whether some worth has a size over 1,000,000.
+// Whether some worth has a size over 1,000,000. network's own test is the other way round, whether all are within, and each is one chain.
 fn is_over<W: Worth>(worths: &[W]) -> bool
     ensures { Decides result (Any (λ w. 1000000 < W.Worth.ops.size w) worths.now) }
 {

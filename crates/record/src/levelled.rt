@@ -30,7 +30,8 @@ pub trait Levelled: Worth {
     fn kind() -> Kind
         ensures { kind_as result ≡ sort };
 
-    // The worth as a level. Levels and worths are of crates below, so that a `From` between them cannot stand here.
+    // The worth as a level. A `From` each way could stand in reading, but it says its outcome as a relation, `from_gives`, and contracts and laws here
+    // need the functions `level` and `worth`: each conversion would want a law more that ties the two.
     fn to_level(self) -> Level
         ensures { result ≡ level self };
 

@@ -1,4 +1,5 @@
-// Records of rounds that carry their own evidence: filing, checking and clearing.
+// Records of rounds that carry their own evidence: filing, checking and clearing. Each of these calls states the law of evidence itself, since a
+// caller looks at one call.
 #![tactic(auto)]
 
 pub mod check;

@@ -1,8 +1,7 @@
-ghost use Rattle.std.specs.Prelude.{◌≡◌, ◌*◌, ◌^◌, ◌<◌, nat_lt, Decides};
+ghost use Rattle.std.specs.Prelude.{◌≡◌, ◌*◌, ◌^◌, ◌<◌, Decides};
 ghost use Rattle.std.specs.Mem.{type_size};
 ghost use Rattle.std.specs.List.{AllByRecursion};
 ghost use Rattle.reading.specs.Contents.{contents};
-ghost use Rattle.round.specs.Questions.{offer_at};
 ghost use Rattle.round.specs.Rounds.{book};
 ghost use Rattle.record.specs.Evidence.{Evidence};
 ghost use Rattle.record.specs.Sheets.{Sheet, ClearedRound, Clearing};
@@ -24,25 +23,11 @@ fn are_zero(units: &[u32]) -> bool
     units.iter().all(|u| *u == 0)
 }
 
-// Whether there is an offer of a number that is not withdrawn.
-fn is_standing(round: &OpenRound, k: u32) -> bool
-    ensures { result ≡ nat_lt 0 (offer_at (book round.now) k).limit }
-{
-    round.offer_at(k).is_some_and(|offer| offer.limit > 0)
-}
-
-// Whether no offer of a round is withdrawn.
-fn are_standing(round: &OpenRound) -> bool
-    ensures { Decides result (AllByRecursion (λ o. 0 < o.limit) (book round.now).offers) }
-{
-    (0..round.offer_count()).all(|k| is_standing(round, k))
-}
-
 // Whether a record is a sheet: no levels, no units and no withdrawn offer.
 pub fn is_sheet(read: &Record) -> bool
     ensures { Decides result (Sheet (contents read.now)) }
 {
-    read.levels().is_empty() && are_zero(read.units()) && are_standing(read.terms())
+    read.levels().is_empty() && are_zero(read.units()) && read.terms().all_stand()
 }
 
 // Clears a round by a kind of worth, whose work table fits in memory, and files the record.
@@ -67,6 +52,7 @@ pub fn clear_sheet(text: &[u8], page: &mut [u8]) -> Result<usize, Fault>
     }
     let kind = read.kind();
     let round = read.into_round();
+    // each kind of worth is a type of its own, and the kind that the text names picks it here: the two calls differ in what they do by it
     let cleared = match kind {
         Kind::Money => clear_by::<Money>(round, page),
         Kind::MoneyThenWeeks => clear_by::<Lexicographic<Money, Weeks>>(round, page),

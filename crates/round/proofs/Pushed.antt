@@ -14,7 +14,7 @@ use Rattle.book.specs.Books.{Book, Sound}
 use Rattle.book.specs.Arcs.{arcs_of}
 use Rattle.book.proofs.Sizes.{network_is_sound_lem}
 use Rattle.round.specs.Carried.{Carries}
-use Rattle.round.specs.Carrying.{same_refl, same_trans}
+use Rattle.flow.proofs.Rows.{same_refl, same_trans}
 
 pub carries_none : (b : Book) → Sound b → Carries b (arcs_of b)
 carries_none b s = record { same = same_refl (arcs_of b); within = λ i l. ((network_is_sound_lem b s).0.each i l).held }

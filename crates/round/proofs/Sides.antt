@@ -102,17 +102,6 @@ module _ {W : Type 0} (x : ClosedRound W) where
             (λ f. let g = All-get_or (FairOffer (length (closed_book x).items) (length (closed_book x).members)) (closed_book x).offers k no_offer en.known f.offers_fair in
             (All-get_or (Fair (length (closed_book x).items)) ls t d l (subst (AllByRecursion (Fair (length (closed_book x).items))) (sym lines) (fair_side s (offer_at (closed_book x) k) g))).price)
 
-sum_suc : {X U : Type 0} (f : X → U → ℕ) (xs : List X) (u : ℕ → U) (i : ℕ) (d : X) → i < length xs → sum_with f (take (suc i) xs) u ≡ sum_with f (take i xs) u + f (get_or xs i d) (u i)
-sum_suc f [] u i d l = absurd (omega arith)
-sum_suc f (x ∷ xs) u zero d l = omega arith
-sum_suc f (x ∷ xs) u (suc i) d l = omega (arith, sum_suc f xs (λ k. u (suc k)) i d (omega arith))
-
--- one entry more in a sum
-pub sum_more : {X U : Type 0} (f : X → U → ℕ) (xs : List X) (u : ℕ → U) (i : ℕ) (d : X) → i < length xs → sum_with f (take (i + 1) xs) u ≡ sum_with f (take i xs) u + f (get_or xs i d) (u i)
-sum_more f xs u i d l =
-    let e : i + 1 ≡ suc i = omega arith in
-    ap (λ n. sum_with f (take n xs) u) e ∙ sum_suc f xs u i d l
-
 -- a sum over a side is one over the units of the allotment
 pub side_sum : (f : Line → ℕ → ℕ) (b : Book) (a : Allotment) (k : ℕ) (s : Side) (ls : List Line) (arcs : List Arc) → Sided b a k s ls arcs → sum_with f ls (flow_of arcs) ≡ sum_with f (lines_on s (offer_at b k)) (units_on s (a k))
 side_sum f b a k s ls arcs h = sum_with_alike f ls (flow_of arcs) (units_on s (a k)) h.units ∙ ap (λ xs. sum_with f xs (units_on s (a k))) h.lines

@@ -21,7 +21,7 @@ use Rattle.book.proofs.Sizes.{network_is_sound_lem}
 use Rattle.book.proofs.Best.{circulation_is_filled_lem, best_is_best_circulation_lem}
 use Rattle.round.specs.Uses.{Accepted, an_item, a_member, a_holding, an_offer, a_withdrawal, with_call, left_by, Opened, begun, item, member, hold, offer, withdraw, OpenLaw, Use, closed, improved, cleared, allotted, Law, RoundLaw}
 use Rattle.round.proofs.Sounds.{sound_fresh, sound_item, sound_member, sound_hold, sound_offer, sound_withdraw}
-use Rattle.round.specs.Carrying.{same_refl, same_trans}
+use Rattle.flow.proofs.Rows.{same_refl, same_trans}
 
 left : {calls : List Accepted} {b : Book} → Opened calls b → b ≡ left_by calls
 left (begun b e) = e

@@ -5,6 +5,8 @@ use std::error::Error;
 use std::fmt;
 
 // Why a call came back with nothing done, and the number by which the exchange knows it.
+// Contracts that list refusals in order name them by number: the exchange's table numbers them, and of those that hold the smallest is
+// given, but for what it says of texts.
 #[derive(Clone, Copy, Debug, PartialEq, Eq)]
 pub enum Refusal {
     Unknown = 1,

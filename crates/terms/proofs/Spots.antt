@@ -6,14 +6,6 @@ use Rattle.std.proofs.lemmas.Bool.{and_parts, and_from, eqb-true, eq-eqb, both_w
 use Rattle.book.specs.Books.{pair, is_of, spot_of}
 use Rattle.book.specs.declared.holding.Holding.{Holding}
 
-pub mapped_zero : (o : Option ℕ) → option_map (λ n. 0 + n) o ≡ o
-mapped_zero None = refl
-mapped_zero (Some x) = let e : 0 + x ≡ x = omega arith in ap Some e
-
-pub mapped_more : (k : ℕ) (o : Option ℕ) → option_map (λ n. k + n) (option_map (λ n. 1 + n) o) ≡ option_map (λ n. (k + 1) + n) o
-mapped_more k None = refl
-mapped_more k (Some x) = let e : k + (1 + x) ≡ (k + 1) + x = omega arith in ap Some e
-
 same : (h : Holding) (m i : ℕ) → is_of h m i ≡ true → pair h ≡ (m, i)
 same h m i e =
     let p = and_parts (eqb h.member m) (eqb h.item i) e in

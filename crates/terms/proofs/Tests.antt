@@ -1,12 +1,15 @@
 -- Tests of the entries of a list, as the library makes them.
-use Rattle.std.proofs.Common.{◌≡◌, ℕ, zero, suc, ◌+◌, ◌<◌, Bool, true, false, ltb, not, cond, List, [], ◌∷◌, length, Option, Some, None, Decides, refl, ap, ◌∙◌, arith}
+use Rattle.std.proofs.Common.{◌≡◌, ℕ, suc, ◌+◌, ◌-◌, ◌<◌, Bool, true, false, ltb, not, cond, List, [], ◌∷◌, ◌++◌, length, Option, Some, None, Decides, inl, inr, sym, refl, ap, ◌∙◌, subst, arith}
 use Rattle.std.specs.Bool.{MatchBool}
 use Rattle.std.specs.List.{position, position_or_len, AllWithin, HoldsAt}
 use Rattle.std.specs.Option.{option_map}
-use Rattle.std.proofs.lemmas.Bool.{both_ways}
-use Rattle.std.proofs.lemmas.Bool.Decides.{nat_tests}
+use Rattle.std.proofs.lemmas.Bool.{both_ways, cases_lt}
+use Rattle.std.proofs.lemmas.Bool.Decides.{nat_tests, Decides-like}
+use Rattle.std.proofs.lemmas.List.{get_or_append_left, get_or-append_right, get_or-append-add, length-append}
 use Rattle.book.specs.Books.{Any, is_of, spot_of}
+use Rattle.book.specs.declared.line.Line.{Line}
 use Rattle.book.specs.declared.holding.Holding.{Holding}
+use Rattle.terms.specs.Lines.{EitherSide}
 
 some : {X : Type 0} (xs : List X) (k : ℕ) → k < length xs → X
 some [] k l = absurd (omega arith)
@@ -16,6 +19,20 @@ some (x ∷ xs) k l = x
 pub any_decides : {X : Type 0} (P : X → Type 0) (r : Bool) (xs : List X) → MatchBool r ((k : ℕ) × (k < length xs) × HoldsAt P xs k) (AllWithin (λ x. P x → ⊥) xs 0 (length xs)) → Decides r (Any P xs)
 any_decides P true xs h = (λ _. h, λ _. refl)
 any_decides P false xs h = (λ e. absurd (both_ways false refl e), λ a. let x = some xs a.0 a.1 in absurd (h a.0 x (omega arith) a.1 (a.2 x)))
+
+-- what decides it of the two sides one behind the other decides it of either side
+pub either_decides : (P : Line → Type 0) (r : Bool) (xs ys : List Line) → Decides r (Any P (xs ++ ys)) → Decides r (EitherSide P xs ys)
+either_decides P r xs ys = Decides-like r apart joined
+  where
+    apart : Any P (xs ++ ys) → EitherSide P xs ys
+    apart (k, l, h) = elim (cases_lt k (length xs)) [
+      | inl lt ↦ inl (k, lt, λ d. subst P (get_or_append_left xs ys d k lt) (h d))
+      | inr le ↦ inr (k - length xs, omega (arith, length-append xs ys), λ d. subst P (get_or-append_right xs ys (length xs) k d refl le) (h d))
+    ]
+
+    joined : EitherSide P xs ys → Any P (xs ++ ys)
+    joined (inl (k, l, h)) = (k, omega (arith, length-append xs ys), λ d. subst P (sym (get_or_append_left xs ys d k l)) (h d))
+    joined (inr (k, l, h)) = (length xs + k, omega (arith, length-append xs ys), λ d. subst P (sym (get_or-append-add xs ys k d)) (h d))
 
 -- the library's first place is where the holding stands
 pub spot_position : (hs : List Holding) (m i : ℕ) → position (λ h. is_of h m i) hs ≡ spot_of hs m i

@@ -1,19 +1,17 @@
 ghost use Rattle.std.specs.Prelude.{◌≡◌};
-ghost use Rattle.book.specs.Books.{is_of, spot_of, held_by};
+ghost use Rattle.book.specs.Books.{spot_of, held_by};
 
 use book::holding::Holding;
 
-fn is_holding(h: Holding, member: u32, item: u32) -> bool
-    ensures { result ≡ is_of h member item }
-{
-    h.member == member && h.item == item
-}
+// Member and item are two parameters, as in the exchange's calls `hold` and `holding`.
 
 // The number of a member's holding of an item, or nothing where no entry exists.
 pub fn find_holding(holdings: &[Holding], member: u32, item: u32) -> Option<usize>
     ensures { result ≡ spot_of holdings.now member item }
 {
-    holdings.iter().position(|h| is_holding(*h, member, item))
+    holdings
+        .iter()
+        .position(|h| (h.member, h.item) == (member, item))
 }
 
 // The units of a member's holding of an item, or nothing where no entry exists.

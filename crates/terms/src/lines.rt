@@ -12,53 +12,35 @@ pub fn is_out(limit: u32) -> bool
     limit < 1 || 1000 < limit
 }
 
-// Whether some line is of an item that is none of so many.
-fn has_unknown(ls: &[Line], items: usize) -> bool
-    ensures { Decides result (Any (λ l. items ≤ l.item) ls.now) }
-{
-    ls.iter().any(|l| items <= l.item as usize)
-}
-
-// Whether some line has a limit out of bounds.
-fn has_out(ls: &[Line]) -> bool
-    ensures { Decides result (Any (λ l. Out l.limit) ls.now) }
-{
-    ls.iter().any(|l| is_out(l.limit))
-}
-
-// Whether some line has a price above 1,000,000.
-fn has_overprice(ls: &[Line]) -> bool
-    ensures { Decides result (Any (λ l. 1000000 < l.price) ls.now) }
-{
-    ls.iter().any(|l| 1_000_000 < l.price)
-}
+// Both sides are parameters, as in the exchange's call `offer`: the view of an offer belongs to `round`, above this crate, and
+// `reading` tests a line that is of no offer yet.
 
 // Whether some line of either side is of an item that is none of so many.
 pub fn has_unknown_item(items: usize, give: &[Line], get: &[Line]) -> bool
     ensures { Decides result (EitherSide (λ l. items ≤ l.item) give.now get.now) }
 {
-    has_unknown(give, items) || has_unknown(get, items)
+    give.iter().chain(get).any(|l| items <= l.item as usize)
 }
 
 // Whether some line of either side has a limit out of bounds.
 pub fn has_line_out(give: &[Line], get: &[Line]) -> bool
     ensures { Decides result (EitherSide (λ l. Out l.limit) give.now get.now) }
 {
-    has_out(give) || has_out(get)
+    give.iter().chain(get).any(|l| is_out(l.limit))
 }
 
 // Whether some line of either side has a price above 1,000,000.
 pub fn is_overpriced(give: &[Line], get: &[Line]) -> bool
     ensures { Decides result (EitherSide (λ l. 1000000 < l.price) give.now get.now) }
 {
-    has_overprice(give) || has_overprice(get)
+    give.iter().chain(get).any(|l| 1_000_000 < l.price)
 }
 
 // Whether some line is of cash above this price.
 fn has_cash_above(ls: &[Line], price: u32) -> bool
     ensures { Decides result (Any (λ w. (w.item ≡ 0) × (price < w.price)) ls.now) }
 {
-    ls.iter().any(|w| w.item == 0 && price < w.price)
+    ls.iter().any(|w| w.is_cash() && price < w.price)
 }
 
 // Whether cash is given at a lower price than got.
@@ -66,7 +48,7 @@ pub fn is_loop(give: &[Line], get: &[Line]) -> bool
     ensures { Decides result (Loop give.now get.now) }
 {
     give.iter()
-        .any(|g| g.item == 0 && has_cash_above(get, g.price))
+        .any(|g| g.is_cash() && has_cash_above(get, g.price))
 }
 
 // Whether some line is of this item.
@@ -76,14 +58,11 @@ pub fn has_item(ls: &[Line], item: u32) -> bool
     ls.iter().map(|l| l.item).any(|i| i == item)
 }
 
-// Whether an item stands twice.
+// Whether an item stands twice: some line is of the item of a line before it.
 pub fn is_doubled(ls: &[Line]) -> bool
     ensures { Decides result (Twice (map item_of ls.now)) }
 {
-    for (j, l) in ls.iter().enumerate() {
-        if has_item(&ls[..j], l.item) {
-            return true;
-        }
-    }
-    false
+    ls.iter()
+        .enumerate()
+        .any(|(j, l)| has_item(&ls[..j], l.item))
 }

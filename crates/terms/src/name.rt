@@ -3,7 +3,7 @@ use std::marker::Model;
 pub mod spelling;
 
 // The name of an item or a member: its letters in place, with their count beside them, since no call of the library may
-// fail for want of memory. The bytes past them are 0.
+// fail for want of memory. The bytes past them are 0. It has no `Default`: a name without letters would be no name.
 #[derive(Clone, Copy)]
 pub struct Name {
     bytes: [u8; 12],

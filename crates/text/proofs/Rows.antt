@@ -117,10 +117,6 @@ module _ {X : Type 0} {notation : Notation X} (legible : Legible notation) where
 pub ended_early : {X : Type 0} {notation : Notation X} {n : ℕ} {bytes : List ℕ} {i : ℕ} {numbers : List X} {rest : List ℕ} → Reading notation n bytes i numbers true rest → i < n → (xs : List X) → SpellsRow notation n bytes xs → ⊥
 ended_early {i = i} before below xs sp = omega (arith, ap length (before.to xs sp).1, length-drop i xs, sp.count)
 
--- a row that goes on after its n numbers
-pub goes_on : {X : Type 0} {notation : Notation X} {n : ℕ} {bytes : List ℕ} {i : ℕ} {numbers : List X} {rest : List ℕ} → Reading notation n bytes i numbers false rest → n ≤ i → (xs : List X) → SpellsRow notation n bytes xs → ⊥
-goes_on {i = i} before past xs sp = omega (arith, (before.to xs sp).1.some, length-drop i xs, sp.count)
-
 -- the n numbers of a row
 pub whole_row : {X : Type 0} {notation : Notation X} {n : ℕ} {bytes : List ℕ} {i : ℕ} {numbers : List X} {rest : List ℕ} → Reading notation n bytes i numbers true rest → n ≤ i → SpellsRow notation n bytes numbers
 whole_row {X} {notation} {n} {bytes} {i} {numbers} before past =

@@ -78,6 +78,7 @@ one_digit : (n : ℕ) → (0 < n → ⊥) → length (spelt n) ≡ 1
 one_digit zero h = refl
 one_digit (suc n) h = absurd (h (omega arith))
 
+-- the spelling of a number has digits only, at least one, no more than it may, and no zero in front
 pub plain_from_spells : (most : ℕ) (bytes : List ℕ) (n : ℕ) → SpellsWithin most unsigned bytes n → Plain most bytes
 plain_from_spells most bytes n (e, few) = subst (Plain most) (sym e) (record {
   all_digits = digits_spelt n;
@@ -86,6 +87,7 @@ plain_from_spells most bytes n (e, few) = subst (Plain most) (sym e) (record {
   lead = λ z. one_digit n (λ p. omega (arith, (first_digit n).1 p));
 })
 
+-- and such bytes spell the number that their digits are worth
 pub spells_from_plain : (most : ℕ) (bytes : List ℕ) → Plain most bytes → digits_value 10 bytes < 2 ^ 64 → SpellsWithin most unsigned bytes (digits_value 10 bytes)
 spells_from_plain most bytes p small =
     let e = sym (decimal_spelt (digits_value 10 bytes) small) ∙ decimal-digits_value own bytes p.all_digits p.some p.lead small in

@@ -23,7 +23,7 @@ impl fmt::Display for Fault {
 
 impl Error for Fault {}
 
-// A refusal that concerns the text as a whole stands at line 0.
+// A refusal that concerns the text as a whole stands at line 0, which the exchange prints for it. Lines count from 1, so no line is meant.
 impl From<Refusal> for Fault {
     ghost from_gives = { λ e f. f ≡ fault_at 0 e };
 

@@ -20,9 +20,9 @@ impl<'a> Row<'a> {
         for number in numbers.iter_mut() {
             *number = T::read(parts.next().ok_or(Refusal::Layout)?)?;
         }
-        match parts.next() {
-            None => Ok(numbers),
-            Some(_) => Err(Refusal::Layout),
+        if parts.next().is_some() {
+            return Err(Refusal::Layout);
         }
+        Ok(numbers)
     }
 }

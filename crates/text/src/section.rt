@@ -3,15 +3,15 @@ ghost use Rattle.text.specs.Sections.{letter as lettered, Opened};
 
 use tables::refusal::Refusal;
 
-// The six sections of a record.
+// The six sections of a record, each with the letter that opens it.
 #[derive(Clone, Copy, Debug, PartialEq, Eq)]
 pub enum Section {
-    Kinds,
-    Items,
-    Members,
-    Holdings,
-    Offers,
-    Levels,
+    Kinds = b'K' as isize,
+    Items = b'I' as isize,
+    Members = b'M' as isize,
+    Holdings = b'H' as isize,
+    Offers = b'O' as isize,
+    Levels = b'L' as isize,
 }
 
 impl Section {
@@ -19,7 +19,7 @@ impl Section {
     pub fn letter(self) -> u8
         ensures { result ≡ lettered self }
     {
-        u8::from(self)
+        self as u8
     }
 }
 
@@ -28,14 +28,7 @@ impl From<Section> for u8 {
     ghost from_gives = { λ s b. b ≡ lettered s };
 
     fn from(section: Section) -> u8 {
-        match section {
-            Section::Kinds => b'K',
-            Section::Items => b'I',
-            Section::Members => b'M',
-            Section::Holdings => b'H',
-            Section::Offers => b'O',
-            Section::Levels => b'L',
-        }
+        section.letter()
     }
 }
 

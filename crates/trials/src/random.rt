@@ -42,7 +42,8 @@ impl Random {
         )
     }
 
-    // Up to five arcs between up to four nodes, parallel ones and loops among them, at the start of the room that is lent.
+    // Up to five arcs between up to four nodes, parallel ones and loops among them, at the start of the room that is lent. It is lent, so that
+    // no draw fails for want of memory, and since `best_of` alters the flows in place, which a `Table` does not let.
     pub fn arcs<'a>(&mut self, room: &'a mut [Arc; 5]) -> &'a mut [Arc]
         ensures { length result.now ≤ 5 }
     {

@@ -18,6 +18,7 @@ row : {M : Type 0} {P : M → Type 0} (key : M → ℤ) (n : ℕ) → ((x : M) �
 row key n small x [] a r = omega (arith, ints, small x a.0)
 row key n small x (y ∷ ys) a r = omega (arith, ints, r.0, row key n small y ys a.1 r.1)
 
+-- a rising row of values whose keys lie within n on both sides of 0 has at most 2n + 1 of them
 integers_rising : {M : Type 0} {P : M → Type 0} (key : M → ℤ) (n : ℕ) → ((x : M) → P x → unsigned_abs (key x) ≤ n) → (xs : List M) → AllByRecursion P xs → Rises (λ a b. int_lt (key a) (key b)) xs → length xs ≤ n + n + 1
 integers_rising key n small [] a r = omega arith
 integers_rising key n small (x ∷ xs) a r = omega (arith, ints, small x a.0, row key n small x xs a r)
@@ -26,6 +27,7 @@ money_times : (n : ℕ) (x : Money) → money.times n x ≡ repeated money.none 
 money_times zero x = ap of_cents (omega (arith, ints))
 money_times (suc n) x = ap of_cents (z_times n x.cents) ∙ ap (money.plus x) (money_times n x)
 
+-- cents form an ordered group, with a size that the operations keep small
 pub money_laws : Laws money
 money_laws = record {
   assoc = λ x y z. ap of_cents (+ℤ_assoc x.cents y.cents z.cents);
@@ -48,6 +50,7 @@ weeks_times : (n : ℕ) (x : Weeks) → weeks.times n x ≡ repeated weeks.none 
 weeks_times zero x = ap of_count (omega (arith, ints))
 weeks_times (suc n) x = ap of_count (z_times n x.count) ∙ ap (weeks.plus x) (weeks_times n x)
 
+-- and so do counts of weeks
 pub weeks_laws : Laws weeks
 weeks_laws = record {
   assoc = λ x y z. ap of_count (+ℤ_assoc x.count y.count z.count);

@@ -7,6 +7,7 @@ use Rattle.worth.specs.declared.lexicographic.Lexicographic.{Lexicographic}
 abbrev pub before : {A B : Type 0} → Ops A → Ops B → Lexicographic A B → Lexicographic A B → Bool
 before a b x y = cond (a.less x.first y.first) true (cond (a.less y.first x.first) false (b.less x.second y.second))
 
+-- a worth of each kind, piled up
 abbrev pub pair : {A B : Type 0} → A → B → Lexicographic A B
 pair x y = record { first = x; second = y }
 

@@ -3,6 +3,7 @@ use Rattle.std.specs.Prelude.{◌+◌, ◌/◌, ℤ, pos, ◌+ℤ◌, ◌*ℤ◌
 use Rattle.worth.specs.Kinds.{Ops}
 use Rattle.worth.specs.declared.money.Money.{Money}
 
+-- so many cents
 abbrev pub of_cents : ℤ → Money
 of_cents z = record { cents = z }
 

@@ -3,6 +3,7 @@ use Rattle.std.specs.Prelude.{ℤ, pos, ◌+ℤ◌, ◌*ℤ◌, neg_ℤ, int_lt,
 use Rattle.worth.specs.Kinds.{Ops}
 use Rattle.worth.specs.declared.weeks.Weeks.{Weeks}
 
+-- so many weeks
 abbrev pub of_count : ℤ → Weeks
 of_count z = record { count = z }
 

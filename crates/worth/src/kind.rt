@@ -16,6 +16,8 @@ pub trait Worth: Copy + Ord {
     fn none() -> Self
         ensures { result ≡ ops.none };
 
+    // `plus` and `minus` are no `Add` and `Sub`. Those can ask for a bound too, but of a kind that is not known they say nothing of
+    // sizes and sums without further laws, which each caller would have to cite.
     fn plus(self, other: Self) -> Self
         requires { ops.size self + ops.size other ≤ 4194304 }
         ensures { result ≡ ops.plus self other };
@@ -39,6 +41,8 @@ pub trait Worth: Copy + Ord {
         self.plus(other.negated())
     }
 
+    // `compare` and `is_less` say the order in the words of the operations. Of a kind that is not known `Ord` alone cannot: each caller
+    // would have to cite `ordered`.
     fn compare(self, other: Self) -> Ordering
         ensures { result ≡ ordering ops self other }
     {

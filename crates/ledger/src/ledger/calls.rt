@@ -31,7 +31,6 @@ impl Ledger {
         }
     }
 
-    // How many trades there are, all of them within the bounds.
     // How many trades there are. Each of them is within its bounds.
     pub fn len(&self) -> usize
         ensures count { result ≡ length self.now }
@@ -65,10 +64,8 @@ impl Ledger {
         ensures { result ≡ lines_of offer self.now }
     {
         let mut lines: Table<Trade, 256> = Table::new(FILLER);
-        for trade in self.trades.as_slice() {
-            if trade.offer == offer {
-                let _ = lines.push(*trade);
-            }
+        for trade in self.trades.as_slice().iter().filter(|t| t.offer == offer) {
+            let _ = lines.push(*trade);
         }
         Ledger { trades: lines }
     }
@@ -84,6 +81,7 @@ impl Ledger {
     pub fn worth<W: Worth>(&self) -> W
         ensures { result ≡ worth_of W.Worth.ops self.now }
     {
+        // a `fold` is no plainer: its closure would have to say itself that the trade is sound, and the sum so far small enough for `plus`
         let mut sum = W::none();
         for trade in self.trades.as_slice() {
             sum = sum.plus(trade.worth());

@@ -42,6 +42,7 @@ fn clamped(row: [u64; 3]) -> Holding
 
 impl Draft<'_> {
     // The next line under H, as one more holding of the round.
+    // It does not go through `Numbered::test`, for the same reason as the names.
     pub(super) fn next_holding(&mut self) -> Result<(), Fault>
         requires { length (so_far self.old).holdings < 128 }
         ensures { Gains AHolding 1 self.old self.new result }

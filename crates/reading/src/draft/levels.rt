@@ -12,7 +12,7 @@ impl Draft<'_> {
         ensures { Gains Level 1 self.old self.new result }
     {
         let level = self.kind.next_level(&mut self.reader)?;
-        let _ = self.levels.push(level);
+        self.levels.push(level).unwrap();
         Ok(())
     }
 }

@@ -6,6 +6,7 @@ use super::super::next::next_name;
 use super::Draft;
 use text::fault::{Fault, at_line};
 
+// Neither goes through `Numbered::test`: the `post` of an `FnOnce` gives its result and not the round that it leaves, so the proof did not close.
 impl Draft<'_> {
     // The next name under I, as one more item of the round.
     pub(super) fn next_item(&mut self) -> Result<(), Fault>

@@ -7,8 +7,9 @@ use super::super::entry::Entry;
 use super::Draft;
 use text::fault::Fault;
 
+// A sort of entry brings its section, its bound, its rule of counts and its reader: with closures each section's caller would have to hand in all four.
 impl Draft<'_> {
-    // The next entry of a section.
+    // The next entry of a section. Each list has a bound of its own, below which its reader requires room; here these are one.
     fn next_entry(&mut self, entry: Entry) -> Result<(), Fault>
         requires { many entry (so_far self.old) < most_of entry }
         ensures { Gains entry 1 self.old self.new result }

@@ -14,7 +14,7 @@ use text::section::Section;
 use worth::kind::Worth;
 
 impl Draft {
-    // The lines of a side of an offer, with the units on them, which are asked for by the line's number.
+    // The lines of a side of an offer, with the units on them, which a closed round answers by the line's number.
     fn side<W: Worth>(&mut self, round: &ClosedRound<W>, offer: u32, side: Side, lines: &[Line])
         requires { (offer < length (closed_book round.now).offers) × (lines.now ≡ lines_on side (offer_at (closed_book round.now) offer)) }
         ensures { Adds self.old.text self.new.text (side_lines (map_with fill_line lines.now (units_on side (closed_allotment round.now offer)))) }
@@ -42,7 +42,7 @@ impl Draft {
         self.side(round, offer, Side::Get, found.get);
     }
 
-    // The section of the offers, which are asked for by their numbers.
+    // The section of the offers, by their numbers, since a closed round answers the units on an offer's lines by its number.
     pub(super) fn offers<W: Worth>(&mut self, round: &ClosedRound<W>)
         ensures { Adds self.old.text self.new.text (offers_section (map_with fill_offer (closed_book round.now).offers (closed_allotment round.now))) }
     {

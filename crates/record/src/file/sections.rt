@@ -18,16 +18,10 @@ impl Draft {
     pub(super) fn kind(&mut self, kind: Kind)
         ensures { Adds self.old.text self.new.text (kind_section (kind_as kind)) }
     {
-        match kind {
-            Kind::Money => {
-                self.head(Section::Kinds, 1);
-                self.line(b"money");
-            }
-            Kind::MoneyThenWeeks => {
-                self.head(Section::Kinds, 2);
-                self.line(b"money");
-                self.line(b"weeks");
-            }
+        self.head(Section::Kinds, kind.parts());
+        self.line(b"money");
+        if kind == Kind::MoneyThenWeeks {
+            self.line(b"weeks");
         }
     }
 

@@ -13,7 +13,7 @@ use round::closed_round::ClosedRound;
 use tables::refusal::Refusal;
 use worth::kind::Worth;
 
-// Puts the flows on the arcs of a round with no flow, one by one.
+// Puts the flows on the arcs of a round with no flow, one by one. A push names its arc by its number.
 fn fill<W: Worth>(round: &mut ClosedRound<W>, flows: &[u32]) -> Result<(), Refusal>
     requires empty { Empty (closed_net round.old) }
     requires long { length flows.now ≡ length (closed_net round.old).arcs }

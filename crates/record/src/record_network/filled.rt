@@ -6,7 +6,8 @@ ghost use Rattle.record.specs.Flows.{Moderate};
 use reading::record::Record;
 use round::offer_view::OfferView;
 
-// An offer and the units on the lines of both sides, to be read.
+// An offer and the units on the lines of both sides, to be read. The units lie beside the offer, since they lie beside the round: a round takes
+// offers without units.
 #[derive(Clone, Copy)]
 pub(super) struct FilledOffer<'a> {
     pub offer: OfferView<'a>,
@@ -16,7 +17,8 @@ pub(super) struct FilledOffer<'a> {
     ghost gets: { Moderate offer.get.now got.now },
 }
 
-// The offers of a record from one on, with the units that are on their lines and those after them.
+// The offers of a record from one on, with the units that are on their lines and those after them. A round's offers are asked for by number, and
+// this makes an iterator of that.
 #[derive(Drop)]
 pub(super) struct FilledOffers<'a> {
     read: &'a Record,

@@ -48,9 +48,9 @@ impl<'a> FilledOffer<'a> {
         requires { length flows.old + length (flow_row (filled self)) ≤ 448 }
         ensures { flows.new ≡ flows.old ++ flow_row (filled self.entry) }
     {
-        let _ = flows.extend(self.given);
-        let _ = flows.push(total(self.given));
-        let _ = flows.extend(self.got);
+        flows.extend(self.given).unwrap();
+        flows.push(total(self.given)).unwrap();
+        flows.extend(self.got).unwrap();
     }
 }
 
@@ -69,7 +69,7 @@ fn holding_flows(record: &Record) -> Table<u32, 448>
 {
     let mut flows = Table::default();
     for h in record.terms().held() {
-        let _ = flows.push(given_from(record, *h));
+        flows.push(given_from(record, *h)).unwrap();
     }
     flows
 }

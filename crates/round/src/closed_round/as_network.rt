@@ -1,5 +1,6 @@
 ghost use Rattle.round.specs.Closed.{closed_net, Alike};
-ghost use Rattle.round.specs.Carrying.{sound_closed, same_refl, same_trans, alike_settled};
+ghost use Rattle.round.specs.Carrying.{sound_closed, alike_settled};
+ghost use Rattle.flow.proofs.Rows.{same_refl, same_trans};
 ghost use Rattle.std.specs.Prelude.{refl};
 ghost use Rattle.std.proofs.Common.{◌∙◌};
 
@@ -11,6 +12,7 @@ use network::readable::Network;
 use tables::refusal::Refusal;
 use worth::kind::Worth;
 
+// A haul table has blocks like these two: what the two types share is the trait, and a body is a call or two of what a type holds.
 impl<W: Worth> Network for ClosedRound<W> {
     ghost net = { λ x. closed_net x };
 

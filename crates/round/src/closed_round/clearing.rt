@@ -9,6 +9,8 @@ use search::improve::improve;
 use tables::refusal::Refusal;
 use worth::kind::Worth;
 
+// Both calls go to the generic functions, as those of a haul table do: these are what the two types share. Each call says the law
+// over uses of its own type, and what its own type keeps.
 impl<W: Worth> ClosedRound<W> {
     // Shifts along one cycle worth more than none, or says that the allotment is best.
     pub fn improve(&mut self, work: &mut [W]) -> Result<Option<W>, Refusal>

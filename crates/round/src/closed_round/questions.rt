@@ -1,4 +1,4 @@
-ghost use Rattle.std.specs.Prelude.{◌≡◌, ◌+◌, ◌≤◌, length, take, drop, pos, ◌-ℤ◌, MatchOption};
+ghost use Rattle.std.specs.Prelude.{◌≡◌, ◌+◌, ◌≤◌, length, take, drop, MatchOption};
 ghost use Rattle.flow.specs.Arcs.{flow_of};
 ghost use Rattle.network.specs.Networks.{value};
 ghost use Rattle.book.specs.Allotments.{price_of};
@@ -36,7 +36,7 @@ fn total_weeks(lines: &[Line], arcs: &[Arc]) -> u32
     lines
         .iter()
         .zip(arcs)
-        .filter(|(line, _)| line.item != 0)
+        .filter(|(line, _)| !line.is_cash())
         .map(|(_, arc)| arc.flow)
         .sum()
 }
@@ -50,7 +50,8 @@ impl<W: Worth> ClosedRound<W> {
         &self.arcs.as_slice()[first..][..count]
     }
 
-    // The lines of an offer's side, and the arcs that stand for them.
+    // The lines of an offer's side, and the arcs that stand for them. They are two slices side by side: the lines lie in a table in
+    // the order of the round, the arcs of holdings and offers in another, in the order of the network.
     fn side(&self, offer: u32, side: Side) -> Option<(&[Line], &[Arc])>
         ensures { MatchOption result (length (closed_book self.now).offers ≤ offer) (λ p. Sided (closed_book self.now) (closed_allotment self.now) offer side p.0.now p.1.now) }
     {
@@ -86,7 +87,7 @@ impl<W: Worth> ClosedRound<W> {
         Ok((money, total_weeks(get, got)))
     }
 
-    // The worth of what flows.
+    // The worth of what flows: the generic function's, with the law over uses of a round.
     pub fn worth(&self) -> W
         ensures value { result ≡ value W.Worth.ops (closed_net self.now) }
         ensures law { Law W.Worth.ops }

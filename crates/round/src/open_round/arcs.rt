@@ -17,7 +17,7 @@ use terms::holdings::find_holding;
 fn get_arc(outside: u32, l: Line) -> Arc
     ensures { result ≡ get_arc outside l 0 }
 {
-    let weeks = if l.item == 0 { 0 } else { 1 };
+    let weeks = if l.is_cash() { 0 } else { 1 };
     Arc::new(outside, l.item, l.limit, i64::from(l.price), weeks)
 }
 
@@ -29,7 +29,7 @@ impl OpenRound {
     {
         match find_holding(self.holdings.as_slice(), member, l.item) {
             Some(k) => ((self.items.len() + k) as u32, l.limit),
-            None => (l.item, if l.item == 0 { l.limit } else { 0 }),
+            None => (l.item, if l.is_cash() { l.limit } else { 0 }),
         }
     }
 
@@ -41,7 +41,7 @@ impl OpenRound {
         Arc::new(from, inside, capacity, -i64::from(l.price), 0)
     }
 
-    // Adds the arcs from each item to its holdings.
+    // Adds the arcs from each item to its holdings. The holdings are numbered, since their nodes come in their order after the items.
     fn add_holdings(&self, arcs: &mut Table<Arc, 448>)
         requires { length arcs.old ≤ 320 }
         ensures { arcs.new ≡ arcs.old ++ holding_arcs (length (book self.now).items) (book self.now).holdings no_flows.held }
@@ -86,7 +86,8 @@ impl OpenRound {
         (self.items.len() + self.holdings.len() + 2 * self.offers.len()) as u32
     }
 
-    // The arcs of the round's network, with no flow on them.
+    // The arcs of the round's network, with no flow on them. The offers are numbered, since their nodes, two for each, come in their
+    // order after those of the holdings.
     pub(crate) fn arcs(&self) -> Table<Arc, 448>
         ensures { result ≡ arcs_of (book self.now) }
     {

@@ -26,6 +26,7 @@ fn put(holdings: &mut Table<Holding, 128>, h: Holding) -> Result<(), Refusal>
     }
 }
 
+// Member, item and units are parameters, as in the exchange's calls `hold` and `holding`.
 impl OpenRound {
     // Whether there is no such member or no such item.
     fn is_strange(&self, member: u32, item: u32) -> bool

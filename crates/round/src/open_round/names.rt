@@ -1,4 +1,4 @@
-ghost use Rattle.std.specs.Prelude.{◌≤◌, map};
+ghost use Rattle.std.specs.Prelude.{◌≤◌};
 ghost use Rattle.round.specs.Rounds.{book};
 ghost use Rattle.round.specs.Naming.{Listed, TakesItem, TakesMember};
 ghost use Rattle.round.specs.Uses.{RoundLaw};
@@ -22,7 +22,7 @@ fn list<const N: usize>(names: &mut Table<Name, N>, s: &[u8]) -> Result<u32, Ref
     if is_among(names.as_slice(), s) {
         return Err(Refusal::Double);
     }
-    names.push(name)?;
+    names.push(name).unwrap();
     Ok(n as u32)
 }
 

@@ -1,5 +1,6 @@
-use Rattle.std.proofs.Common.{◌∙◌, sym, refl, rules}
+use Rattle.std.proofs.Common.{◌∙◌, sym, refl, rules, arith}
 use Rattle.std.proofs.lemmas.Result.{err_from_is_err_and}
+use Rattle.text.proofs.Rows.{no_part}
 use Rattle.ledger.proofs.Spelt.{begins, given, offer_word, the_side, price_word, units_word, last_word, ended, then_more, then_none, spells_from_words}
 use Rattle.ledger.proofs.reading.read_trade.Goals as goal
 
@@ -78,20 +79,21 @@ returns-in_err-is_week c =
     let h = c.in_err-is_week.ensures in
     rw (p.1, p.2) (h.0, λ t s. h.1 t.is_week (w5.is t s))
 
-pub returns-in-None : goal.returns-in-None
-returns-in-None c =
-    let p1 = given _ _ _ _ _ c.next.ensures.steps c.in_ok-ok_or.ensures.value (λ f a r f' k. search rules) in
-    let p2 = given _ _ _ _ _ c.next-2.ensures.steps c.in_ok-ok_or-2.ensures.value (λ f a r f' k. search rules) in
-    let p3 = given _ _ _ _ _ c.next-3.ensures.steps c.in_ok-ok_or-3.ensures.value (λ f a r f' k. search rules) in
-    let p4 = given _ _ _ _ _ c.next-4.ensures.steps c.in_ok-ok_or-4.ensures.value (λ f a r f' k. search rules) in
-    let p5 = given _ _ _ _ _ c.next-5.ensures.steps c.in_ok-ok_or-5.ensures.value (λ f a r f' k. search rules) in
-    spells_from_words _ (sym c.split-words.ensures.rest ∙ then_more _ _ _ _ p1.1 p2.0) (then_more _ _ _ _ p2.1 p3.0) (then_more _ _ _ _ p3.1 p4.0) (then_more _ _ _ _ p4.1 p5.0) (then_none _ _ _ _ p5.1 c.in-None.ensures.steps.0) c.in_ok-offer.ensures c.in_ok-side.ensures c.in_ok-price.ensures c.in_ok-units.ensures c.in_ok-is_week.ensures
-
-pub returns-in-Some : goal.returns-in-Some
-returns-in-Some c =
+pub returns-then-is_some : goal.returns-then-is_some
+returns-then-is_some c =
     let w1 = offer_word (begins c.split-words.ensures.done c.split-words.ensures.rest) (given _ _ _ _ _ c.next.ensures.steps c.in_ok-ok_or.ensures.value (λ f a r f' k. search rules)) in
     let w2 = the_side w1.left (given _ _ _ _ _ c.next-2.ensures.steps c.in_ok-ok_or-2.ensures.value (λ f a r f' k. search rules)) in
     let w3 = price_word w2.left (given _ _ _ _ _ c.next-3.ensures.steps c.in_ok-ok_or-3.ensures.value (λ f a r f' k. search rules)) in
     let w4 = units_word w3.left (given _ _ _ _ _ c.next-4.ensures.steps c.in_ok-ok_or-4.ensures.value (λ f a r f' k. search rules)) in
     let w5 = last_word _ w4.left (given _ _ _ _ _ c.next-5.ensures.steps c.in_ok-ok_or-5.ensures.value (λ f a r f' k. search rules)) in
-    (refl, λ t s. absurd (cc (sym (w5.over t s) ∙ c.in-Some.ensures.steps.0)))
+    (refl, λ t s. let o = w5.over t s in grind arith)
+
+pub returns : goal.returns
+returns c =
+    let p1 = given _ _ _ _ _ c.next.ensures.steps c.in_ok-ok_or.ensures.value (λ f a r f' k. search rules) in
+    let p2 = given _ _ _ _ _ c.next-2.ensures.steps c.in_ok-ok_or-2.ensures.value (λ f a r f' k. search rules) in
+    let p3 = given _ _ _ _ _ c.next-3.ensures.steps c.in_ok-ok_or-3.ensures.value (λ f a r f' k. search rules) in
+    let p4 = given _ _ _ _ _ c.next-4.ensures.steps c.in_ok-ok_or-4.ensures.value (λ f a r f' k. search rules) in
+    let p5 = given _ _ _ _ _ c.next-5.ensures.steps c.in_ok-ok_or-5.ensures.value (λ f a r f' k. search rules) in
+    let over = no_part _ _ _ c.next-6.result c.next-6.ensures.steps (grind arith) in
+    spells_from_words _ (sym c.split-words.ensures.rest ∙ then_more _ _ _ _ p1.1 p2.0) (then_more _ _ _ _ p2.1 p3.0) (then_more _ _ _ _ p3.1 p4.0) (then_more _ _ _ _ p4.1 p5.0) (then_none _ _ _ _ p5.1 over) c.in_ok-offer.ensures c.in_ok-side.ensures c.in_ok-price.ensures c.in_ok-units.ensures c.in_ok-is_week.ensures

@@ -1,4 +1,4 @@
-use Rattle.std.proofs.Common.{◌≡◌, map, sym, refl, ap, ◌∙◌, subst}
+use Rattle.std.proofs.Common.{◌≡◌, sym, refl, ap, ◌∙◌, subst}
 use Rattle.std.proofs.lemmas.Result.{err_from_is_err_and}
 use Rattle.std.proofs.lemmas.Bool.Decides.{not_from_Decides}
 use Rattle.tables.proofs.Firsts.{here, next, not_first}
@@ -9,11 +9,10 @@ use Rattle.book.specs.Rows.{map_with}
 use Rattle.book.proofs.Places.{filling_keeps_units}
 use Rattle.layout.specs.Records.{book_of, allotted}
 use Rattle.reading.specs.Contents.{contents}
-use Rattle.reading.specs.Levels.{numbers}
 use Rattle.record.specs.Checks.{result_of}
 use Rattle.record.specs.Evidence.{LevelsFit}
 use Rattle.record.specs.Networks.{record_net}
-use Rattle.record.proofs.Checking.{allowed_from, circulating, levels_few, results_alike, undrawn}
+use Rattle.record.proofs.Checking.{allowed_from, circulating, levels_few, levels_read, results_alike, undrawn}
 use Rattle.record.proofs.check.check_by.Goals as goal
 
 pub returns-in_err-net : goal.returns-in_err-net
@@ -34,7 +33,7 @@ returns-then-not-fits g c v k =
     let drawn = c.in_ok-net.ensures in
     let net = drawn.outcome.0 in
     let allowed = allowed_from (book_of x) (allotted x) v.sound (not_first drawn.refused) (subst Circulates net (c.is_circulation.ensures.0 c.if-not-is_circulation.false)) in
-    let e = c.put_worths.ensures ∙ ap (λ j. map (numbers j) c.levels-levels.result.now) (sym k) ∙ c.levels-levels.ensures in
+    let e = levels_read g.met.W.Levelled.told k c.levels.result.now c.levels.ensures _ (c.as_slice.ensures ∙ c.worths-worths.ensures) in
     let same : LevelsFit x.kind _ x.levels ≡ LevelsFit g.W.Levelled.sort (record_net c.in_ok-net.net) _ = (λ i. LevelsFit (k i) (sym net i) (sym e i)) in
     record { refused = next (λ not. not allowed) (here (λ f. not_from_Decides _ c.fits.ensures c.if-not-fits.true ((g.met.W.Levelled.told.fitting _ _).1 (subst (λ (T : Type 0). T) same f)))); outcome = tt }
 
@@ -45,7 +44,7 @@ returns g c v k =
     let net = drawn.outcome.0 in
     let b = drawn.outcome.1 in
     let allowed = allowed_from (book_of x) (allotted x) v.sound (not_first drawn.refused) (subst Circulates net (c.is_circulation.ensures.0 c.if-not-is_circulation.false)) in
-    let e = c.put_worths.ensures ∙ ap (λ j. map (numbers j) c.levels-levels.result.now) (sym k) ∙ c.levels-levels.ensures in
+    let e = levels_read g.met.W.Levelled.told k c.levels.result.now c.levels.ensures _ (c.as_slice.ensures ∙ c.worths-worths.ensures) in
     let same : LevelsFit g.W.Levelled.sort (record_net c.in_ok-net.net) _ ≡ LevelsFit x.kind _ x.levels = (λ i. LevelsFit (sym k i) (net i) (e i)) in
     let fits = subst (λ (T : Type 0). T) same ((g.met.W.Levelled.told.fitting _ _).0 (c.fits.ensures.0 c.if-not-fits.false)) in
     record {
@@ -58,5 +57,5 @@ returns g c v k =
       };
     }
 
-pub put_worths-requires : goal.put_worths-requires
-put_worths-requires g c = levels_few c.args.read c.levels-levels.result.now c.levels-levels.ensures
+pub worths-worths-requires : goal.worths-worths-requires
+worths-worths-requires g c = (c.requires, levels_few c.args.read c.levels.result.now c.levels.ensures)

@@ -20,9 +20,9 @@ returns-then-are_zero c =
         λ t. record {
           unlevelled = sym many ∙ eqb-true (length ls) 0 (sym w.if-is_empty.ensures);
           unfilled = lines_unfilled x.offers (subst (AllByRecursion (λ u. u ≡ 0)) w.units.ensures (w.are_zero.ensures.0 (sym w.value-is ∙ c.if-are_zero.true)));
-          standing = limits_from x.offers (subst (AllByRecursion (λ o. 0 < o.limit)) offers (c.are_standing.ensures.0 t));
+          standing = limits_from x.offers (subst (AllByRecursion (λ o. 0 < o.limit)) offers (c.all_stand.ensures.0 t));
         },
-        λ sheet. c.are_standing.ensures.1 (subst (AllByRecursion (λ o. 0 < o.limit)) (sym offers) (limits_to x.offers sheet.standing)),
+        λ sheet. c.all_stand.ensures.1 (subst (AllByRecursion (λ o. 0 < o.limit)) (sym offers) (limits_to x.offers sheet.standing)),
       )
       | else-is_empty w ↦ absurd (both_ways _ w.if-is_empty.false (sym w.value-is ∙ c.if-are_zero.true))
     ]

@@ -1,50 +1,58 @@
-use Rattle.std.proofs.Common.{◌≡◌, ℕ, ◌<◌, List, map, length, get_or, take, sym, refl, ap, ◌∙◌, subst₂, arith, below_more}
-use Rattle.std.specs.List.{ContainsAt as Has}
+use Rattle.std.proofs.Common.{◌≡◌, ℕ, ◌+◌, ◌<◌, List, map, length, get_or, take, sym, ap, ◌∙◌, subst, subst₂, rules, arith}
+use Rattle.std.specs.List.{ContainsAt as Has, enumerate_from}
+use Rattle.std.proofs.lemmas.Bool.Decides.{Decides-like}
+use Rattle.std.proofs.lemmas.Iterator.{YieldsList-from_slice, cases_from_any}
+use Rattle.std.proofs.lemmas.Iterator.Consumers.{YieldsList-from_enumerate}
 use Rattle.std.proofs.lemmas.List.{get_or-map, get_or-take, get_or_default, length-map, length-take, take-map}
-use Rattle.std.proofs.lemmas.Bool.{both_ways}
-use Rattle.book.specs.Books.{item_of}
+use Rattle.std.proofs.lemmas.List.FromFn.{length-enumerate_from, get_or-enumerate_from}
+use Rattle.book.specs.Books.{no_line, Any, Twice, item_of}
 use Rattle.book.specs.declared.line.Line.{Line}
+use Rattle.terms.proofs.Tests.{any_decides}
 use Rattle.terms.proofs.lines.is_doubled.Goals as goal
 
--- an earlier entry with the same number
-abbrev Earlier : List ℕ → ℕ → Type 0
-Earlier js j = (i : ℕ) × (i < j) × ((d : ℕ) → get_or js i d ≡ get_or js j d)
-
-module _ (ls : List Line) (j n : ℕ) (z : Line) (e : n ≡ j) (l : j < length ls) where
+module _ (ls : List Line) where
   abbrev js : List ℕ
   js = map item_of ls
 
-  same : map item_of (take n ls) ≡ take j js
-  same = sym (take-map item_of n ls) ∙ ap (λ k. take k js) e
+  -- the item of a numbered line stands before it
+  abbrev Again : ℕ × Line → Type 0
+  Again p = Has (map item_of (take p.0 ls)) p.1.item
 
-  item : (get_or ls j z).item ≡ get_or js j 0
-  item = sym (get_or-map item_of ls j z 0 l)
+  -- an earlier entry with the same number
+  abbrev Earlier : ℕ → Type 0
+  Earlier j = (i : ℕ) × (i < j) × ((d : ℕ) → get_or js i d ≡ get_or js j d)
 
-  long : j < length js
-  long = omega (arith, length-map ls item_of)
+  module _ (j : ℕ) (z : Line) (l : j < length ls) where
+    same : map item_of (take (0 + j) ls) ≡ take j js
+    same = let e : 0 + j ≡ j = omega arith in sym (take-map item_of (0 + j) ls) ∙ ap (λ k. take k js) e
 
-  there : Has (take j js) (get_or js j 0) → Earlier js j
-  there h = let lt : h.0 < j = omega (arith, h.1, length-take j js) in (h.0, lt, λ d. sym (get_or-take j js h.0 d lt) ∙ h.2 d ∙ get_or_default js j 0 d long)
+    item : (get_or ls j z).item ≡ get_or js j 0
+    item = sym (get_or-map item_of ls j z 0 l)
 
-  back : Earlier js j → Has (take j js) (get_or js j 0)
-  back h = (h.0, omega (arith, h.1, long, length-take j js), λ d. get_or-take j js h.0 d h.1 ∙ h.2 d ∙ get_or_default js j d 0 long)
+    long : j < length js
+    long = omega (arith, length-map ls item_of)
 
-  found : Has (map item_of (take n ls)) (get_or ls j z).item → Earlier js j
-  found h = there (subst₂ Has same item h)
+    found : Again (0 + j, get_or ls j z) → Earlier j
+    found a =
+        let h = subst₂ Has same item a in
+        let lt : h.0 < j = omega (arith, h.1, length-take j js) in
+        (h.0, lt, λ d. sym (get_or-take j js h.0 d lt) ∙ h.2 d ∙ get_or_default js j 0 d long)
 
-  missed : Earlier js j → Has (map item_of (take n ls)) (get_or ls j z).item
-  missed h = subst₂ Has (sym same) (sym item) (back h)
+    missed : Earlier j → Again (0 + j, get_or ls j z)
+    missed (i, lt, h) = subst₂ Has (sym same) (sym item) (i, omega (arith, lt, long, length-take j js), λ d. get_or-take j js i d lt ∙ h d ∙ get_or_default js j d 0 long)
 
-pub returns-then-has_item : goal.returns-then-has_item
-returns-then-has_item c =
+  twice : Any Again (enumerate_from 0 ls) → Twice js
+  twice (j, l, h) =
+      let lt : j < length ls = omega (arith, length-enumerate_from 0 ls) in
+      let f = found j no_line lt (subst Again (get_or-enumerate_from 0 ls j (0, no_line) lt) (h (0, no_line))) in
+      (j, long j no_line lt, f.0, f.1, f.2)
+
+  again : Twice js → Any Again (enumerate_from 0 ls)
+  again (j, l, i, lo, e) =
+      let lt : j < length ls = omega (arith, length-map ls item_of) in
+      (j, omega (arith, length-enumerate_from 0 ls), λ d. subst Again (sym (get_or-enumerate_from 0 ls j d lt)) (missed j d.1 lt (i, lo, e)))
+
+pub returns : goal.returns
+returns c =
     let ls = c.args.ls.now in
-    let l : c.loop-j.j < length ls = omega arith in
-    let f = found ls c.loop-j.j _ _ (omega arith) l (c.has_item.ensures.0 c.if-has_item.true) in
-    (λ _. (c.loop-j.j, omega (arith, length-map ls item_of), f.0, f.1, f.2), λ _. refl)
-
-pub loop-j-preserved : goal.loop-j-preserved
-loop-j-preserved c =
-    let ls = c.args.ls.now in
-    let l : c.loop-j.j < length ls = omega arith in
-    below_more _ _ c.loop-j.invariant
-    (λ i lt h. both_ways c.has_item.result c.if-has_item.false (c.has_item.ensures.1 (missed ls c.loop-j.j _ _ (omega arith) l (i, lt, h))))
+    Decides-like c.any.result (twice ls) (again ls) (any_decides (Again ls) _ _ (cases_from_any _ _ _ (Again ls) (λ p. Again ls p → ⊥) c.any.ensures.ran (YieldsList-from_enumerate (YieldsList-from_slice ls (cc)) (cc)) (λ x q k. search rules) (λ x q k. search rules)))

@@ -1,31 +1,28 @@
-use Rattle.std.proofs.Common.{◌+◌, ◌≤◌, [], ◌∷◌, ◌++◌, length, get_or, take, sym, ap, ◌∙◌, subst, arith}
-use Rattle.std.proofs.lemmas.List.{take_all, length-take}
+use Rattle.std.proofs.Common.{◌+◌, ◌≤◌, ◌∷◌, [], ◌++◌, eqb, length, sym, ap, ◌∙◌, subst, arith, rules, tests}
+use Rattle.std.proofs.lemmas.Iterator.{YieldsList-from_slice}
+use Rattle.std.proofs.lemmas.Iterator.Consumers.{YieldsList-from_filter, YieldsList-turn, YieldsList-end}
+use Rattle.std.proofs.lemmas.List.{length-map, map_push}
+use Rattle.std.specs.Iterator.Adapters.{filter_callee}
 use Rattle.tables.proofs.Entries.{grew}
-use Rattle.ledger.specs.Trades.{lines_of}
-use Rattle.ledger.proofs.Sums.{Kept, blank, kept_next, skipped_next, kept_few, kept_sound}
+use Rattle.ledger.proofs.Sums.{Kept, kept_few, kept_sound}
 use Rattle.ledger.proofs.ledger.Ledger.lines_of.Goals as goal
-use Rattle.ledger.proofs.ledger.Ledger.lines_of.Goals.{then-trade-offer, else-trade-offer}
 
 pub loop-trade-preserved : goal.loop-trade-preserved
 loop-trade-preserved c =
-    let k = c.args.offer in
-    let ts = c.as_slice-trade-items.result.now in
-    let i = c.loop-trade.trade-index in
-    let kept : Kept ts = subst Kept (sym c.as_slice-trade-items.ensures) c.self.invariant in
-    let room : length c.loop-trade.lines + 1 ≤ 256 = omega (arith, ap length c.loop-trade.invariant, kept_few k (take i ts), length-take i ts, kept.1) in
-    elim c.if-trade-offer.branch [
-      | then-trade-offer w ↦
-          w.lines-is
-          ∙ grew 256 _ _ _ _ w.push.ensures room
-          ∙ ap (λ xs. xs ++ get_or ts i blank ∷ []) c.loop-trade.invariant
-          ∙ sym (kept_next k ts i c.loop-trade-test.true w.if-trade-offer.true)
-      | else-trade-offer w ↦ w.lines-is ∙ c.loop-trade.invariant ∙ sym (skipped_next k ts i c.loop-trade-test.true w.if-trade-offer.false)
-    ]
+    let kept : Kept c.args.self.now = subst Kept c.self.view_is c.self.invariant in
+    let turn = YieldsList-turn (YieldsList-from_filter _ (λ t. eqb t.offer c.args.offer) (YieldsList-from_slice c.args.self.now (cc)) (ap filter_callee c.into_iter-trade-iterator.ensures.into_iter_gives ∙ c.filter-trade-items.ensures.closure) (λ x r q k. search (rules, tests))) c.loop-trade.yielded _ c.loop-trade.yielded_by _ _ c.in-Some.trade c.in-Some.is c.next.ensures.steps in
+    let room : length c.loop-trade.lines + 1 ≤ 256 = omega (arith, ap length c.loop-trade.invariant, length-map c.loop-trade.yielded (λ t. t.now), turn.0, kept_few c.args.offer c.args.self.now, kept.1) in
+    grew 256 _ _ _ _ c.push.ensures room
+    ∙ ap (λ xs. xs ++ c.in-Some.trade.now ∷ []) c.loop-trade.invariant
+    ∙ sym (map_push (λ t. t.now) c.loop-trade.yielded c.in-Some.trade)
 
 pub invariant_of-result : goal.invariant_of-result
 invariant_of-result c =
-    let k = c.args.offer in
-    let ts = c.as_slice-trade-items.result.now in
-    let kept : Kept ts = subst Kept (sym c.as_slice-trade-items.ensures) c.self.invariant in
-    let all = c.loop-trade.invariant ∙ ap (lines_of k) (take_all c.loop-trade.trade-index ts c.loop-trade-test.false) in
-    subst Kept (sym all) (kept_sound k ts kept.0, omega (arith, kept_few k ts, kept.1))
+    let kept : Kept c.args.self.now = subst Kept c.self.view_is c.self.invariant in
+    let end = YieldsList-end (YieldsList-from_filter _ (λ t. eqb t.offer c.args.offer) (YieldsList-from_slice c.args.self.now (cc)) (ap filter_callee c.into_iter-trade-iterator.ensures.into_iter_gives ∙ c.filter-trade-items.ensures.closure) (λ x r q k. search (rules, tests))) c.loop-trade.yielded _ c.loop-trade.yielded_by _ _ c.in-None.is c.next.ensures.steps in
+    subst Kept (sym (c.loop-trade.invariant ∙ end.0)) (kept_sound c.args.offer c.args.self.now kept.0, omega (arith, kept_few c.args.offer c.args.self.now, kept.1))
+
+pub returns : goal.returns
+returns c =
+    let end = YieldsList-end (YieldsList-from_filter _ (λ t. eqb t.offer c.args.offer) (YieldsList-from_slice c.args.self.now (cc)) (ap filter_callee c.into_iter-trade-iterator.ensures.into_iter_gives ∙ c.filter-trade-items.ensures.closure) (λ x r q k. search (rules, tests))) c.loop-trade.yielded _ c.loop-trade.yielded_by _ _ c.in-None.is c.next.ensures.steps in
+    c.loop-trade.invariant ∙ end.0

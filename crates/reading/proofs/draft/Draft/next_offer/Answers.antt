@@ -1,5 +1,5 @@
 use Rattle.std.proofs.Common.{◌≡◌, ◌+◌, ◌≤◌, ◌++◌, map, length, refl, sym, ap, ◌∙◌, arith}
-use Rattle.std.proofs.lemmas.List.{length-map, length_push}
+use Rattle.std.proofs.lemmas.List.{length_push}
 use Rattle.std.proofs.lemmas.Result.{err_from_is_err_and}
 use Rattle.tables.proofs.Entries.{grew}
 use Rattle.book.specs.Books.{line_count}
@@ -9,7 +9,7 @@ use Rattle.reading.specs.Drafts.{so_far}
 use Rattle.reading.specs.declared.entry.Entry.TheVariants.{Offer}
 use Rattle.reading.proofs.Gains.{one_more}
 use Rattle.reading.proofs.Helds.{book_held, units_held, units_counted}
-use Rattle.reading.proofs.Offered.{units_long, Begun, begun, give_stops, get_stops, OfferRead, all_read, with_said, offer_held, offer_counted}
+use Rattle.reading.proofs.Offered.{units_long, Begun, begun, give_stops, get_stops, OfferRead, takable, all_read, with_said, offer_held, offer_counted}
 use Rattle.reading.proofs.draft.Draft.next_offer.Goals as goal
 use Rattle.reading.proofs.draft.Draft.next_offer.Goals.{In_ok-head, After-extend}
 
@@ -44,6 +44,11 @@ pub returns-in_err-get : goal.returns-in_err-get
 returns-in_err-get c =
     let p = err_from_is_err_and c.from_residual-in_err-get.result c.from_residual-in_err-get.ensures.1 in
     rw (p.1, p.2) (get_stops (after-head (goal.at.returns-in_err-get c).In_ok-head) c.in_ok-give.ensures c.as_slice.ensures _ c.in_err-get.ensures)
+
+pub add_offer-requires : goal.add_offer-requires
+add_offer-requires c =
+    let d = c.args.self.now in
+    takable (after-head (goal.at.add_offer-requires c).In_ok-head) c.in_ok-give.ensures c.as_slice.ensures c.in_ok-get.ensures (book d.round) c.as_slice-2.result.now c.as_slice-3.result.now (book_held d.kind (book d.round) d.units d.levels) c.as_slice-2.ensures c.as_slice-3.ensures
 
 -- all of it was
 after-lines : (c : goal.After-extend) → OfferRead (so_far c.args.self.now) c.args.self.now.reader c.next_lines-2.new.reader (book c.add_offer.new.round) c.extend.new.self

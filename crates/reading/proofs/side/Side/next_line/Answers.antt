@@ -12,7 +12,7 @@ returns-in_err-row c =
 pub returns : goal.returns
 returns c =
     let items = c.args.self.items in
-    let gs = c.args.self.give.now in
+    let gs = c.args.self.other.now in
     let above = c.args.above.now in
     let n = c.in_ok-row.ensures in
     let r = c.test_line.result in

@@ -1,8 +1,8 @@
-use Rattle.std.proofs.Common.{refl, arith, rules}
+use Rattle.std.proofs.Common.{arith, rules}
 use Rattle.std.proofs.lemmas.List.{length-replicate}
 use Rattle.std.proofs.lemmas.List.Sorted.{answers_always}
 use Rattle.std.proofs.lemmas.Result.{err_from_is_err_and}
-use Rattle.text.proofs.Rows.{begin, next_part, no_part, read_part, none_read, ended_early, goes_on, whole_row, known}
+use Rattle.text.proofs.Rows.{begin, next_part, no_part, read_part, none_read, ended_early, whole_row, known}
 use Rattle.text.proofs.row.Row.read.Goals as goal
 
 pub loop-number-init : goal.loop-number-init
@@ -26,8 +26,5 @@ loop-number-preserved g c =
     let part = next_part _ _ _ c.next.result c.in_ok-ok_or.field-0 c.next.ensures.steps (grind arith) (answers_always _ _ _ (λ f a r f' k. search rules)) in
     read_part g.met.T.Numeral.legible (known part.0 c.loop-number.invariant) c.loop-number-test.true _ _ _ part.1 _ c.in_ok-number.ensures
 
-pub returns-in-None : goal.returns-in-None
-returns-in-None g c = whole_row (known c.in-None.ensures.steps.0 c.loop-number.invariant) c.loop-number-test.false
-
-pub returns-in-Some : goal.returns-in-Some
-returns-in-Some g c = (refl, goes_on (known c.in-Some.ensures.steps.0 c.loop-number.invariant) c.loop-number-test.false)
+pub returns : goal.returns
+returns g c = whole_row (known (no_part _ _ _ c.next-2.result c.next-2.ensures.steps (grind arith)) c.loop-number.invariant) c.loop-number-test.false

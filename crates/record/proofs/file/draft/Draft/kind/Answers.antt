@@ -1,13 +1,30 @@
-use Rattle.std.proofs.Common.{sym, ap}
+use Rattle.std.proofs.Common.{◌≡◌, true, false, [], ◌∷◌, codes, refl, ap, ◌∙◌}
+use denote.Enum.Bare.{sameb}
+use Rattle.text.specs.declared.section.Section.TheVariants.{Kinds}
+use Rattle.layout.specs.Layout.{head, spell}
 use Rattle.layout.specs.Render.{kind_section}
-use Rattle.reading.specs.Kinds.{kind as kind_as}
+use Rattle.reading.specs.Kinds.{count_of, kind as kind_as}
+use Rattle.reading.specs.contracts.kind.Kind.{the_type}
+use Rattle.reading.specs.declared.kind.Kind.{Kind}
+use Rattle.reading.specs.declared.kind.Kind.TheVariants.{Money, MoneyThenWeeks}
 use Rattle.record.proofs.Adding.{adds_same, adds_then}
 use Rattle.record.proofs.file.draft.Draft.kind.Goals as goal
 
-pub returns-in-Money : goal.returns-in-Money
-returns-in-Money c = adds_same (ap (λ k. kind_section (kind_as k)) (sym c.in-Money.is)) (adds_then c.head.ensures c.line.ensures)
+-- a kind that is not money then weeks has one word, and that one has two
+one_word : (k : Kind) → false ≡ sameb the_type k MoneyThenWeeks → spell (head Kinds) (count_of k) ∷ codes "money" ∷ [] ≡ kind_section (kind_as k)
+one_word Money e = refl
+one_word MoneyThenWeeks e = cc
 
-pub returns-in-MoneyThenWeeks : goal.returns-in-MoneyThenWeeks
-returns-in-MoneyThenWeeks c =
-    let lines = adds_then c.line-in-MoneyThenWeeks.ensures c.line-in-MoneyThenWeeks-2.ensures in
-    adds_same (ap (λ k. kind_section (kind_as k)) (sym c.in-MoneyThenWeeks.is)) (adds_then c.head-in-MoneyThenWeeks.ensures lines)
+two_words : (k : Kind) → true ≡ sameb the_type k MoneyThenWeeks → spell (head Kinds) (count_of k) ∷ codes "money" ∷ codes "weeks" ∷ [] ≡ kind_section (kind_as k)
+two_words Money e = cc
+two_words MoneyThenWeeks e = refl
+
+pub returns-then-eq : goal.returns-then-eq
+returns-then-eq c =
+    adds_same (ap (λ n. spell (head Kinds) n ∷ codes "money" ∷ codes "weeks" ∷ []) c.parts.ensures ∙ two_words c.args.kind c.if-eq.ensures)
+    (adds_then c.head.ensures (adds_then c.line.ensures c.line-then-eq.ensures))
+
+pub returns-else-eq : goal.returns-else-eq
+returns-else-eq c =
+    adds_same (ap (λ n. spell (head Kinds) n ∷ codes "money" ∷ []) c.parts.ensures ∙ one_word c.args.kind c.if-eq.ensures)
+    (adds_then c.head.ensures c.line.ensures)

@@ -1,0 +1,8 @@
+use Rattle.answers.proofs.Whole.{check_prints, lent, when_ok}
+use Rattle.answers.proofs.run.run_check.Goals as goal
+
+pub returns : goal.returns
+returns g c =
+    let known = g.R.Read.remaining c.args.input in
+    let read = lent known c.deref.result.now c.in_ok-text.text.items c.deref.ensures.value c.in_ok-text.ensures in
+    when_ok c.write.result (check_prints known (g.W.Write.contents c.args.output.now) (g.W.Write.contents c.write.new.self) c.deref.result.now c.check.result read c.check.ensures.outcome) c.write.ensures.bytes

@@ -1,0 +1,7 @@
+// What the programs `check` and `clear` read and print.
+#![tactic(auto)]
+
+pub mod answer;
+pub mod input;
+pub mod line;
+pub mod run;

@@ -1,0 +1,14 @@
+pub mod Calls
+pub mod Building
+pub mod Flown
+pub mod Most
+pub mod Some
+pub mod Every
+pub mod Tests
+pub mod Cycles
+pub mod Rounds
+pub mod Records
+pub mod Cuts
+pub mod Cleared
+pub mod Edges
+pub mod Texts

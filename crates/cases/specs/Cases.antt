@@ -1,0 +1,157 @@
+-- The worked cases, with the numbers that come out.
+use Rattle.std.specs.Prelude.{◌≡◌, ℕ, List, [], ◌∷◌, map, ℤ, pos, negsuc, codes, ⊤}
+use Rattle.std.specs.List.{AllByRecursion}
+use Rattle.worth.specs.Money.{money, of_cents}
+use Rattle.worth.specs.Weeks.{weeks, of_count}
+use Rattle.worth.specs.Lexicographic.{pile, pair}
+use Rattle.worth.specs.declared.money.Money.{Money}
+use Rattle.worth.specs.declared.weeks.Weeks.{Weeks}
+use Rattle.worth.specs.declared.lexicographic.Lexicographic.{Lexicographic}
+use Rattle.flow.specs.declared.arc.Arc.{Arc}
+use Rattle.flow.specs.Arcs.{fresh}
+use Rattle.network.specs.Networks.{value}
+use Rattle.layout.specs.Records.{by_money, by_money_then_weeks}
+use Rattle.layout.specs.Render.{ended}
+use Rattle.book.specs.declared.line.Line.{Line}
+use Rattle.record.specs.declared.passed.OfferResult.{OfferResult}
+use Rattle.record.specs.declared.passed.Total.TheVariants as total
+use Rattle.cases.specs.Calls.{Answer, numbered, done, refused, Call, member, hold, offer, Built, Closed, Hauled}
+use Rattle.cases.specs.Clearing.{Best, RisesOnce, Clears}
+use Rattle.cases.specs.Texts.{RecordOf, Passing, Failing, Filing, ClearingSheet}
+use Rattle.cases.specs.Chain.{line, chain, chain_answers, money_text, chain_levels, filed_levels, threes, raised_levels, levels_with_79, cut_text, chain_sheet, cash_text, weeks_text}
+use Rattle.cases.specs.Resale.{resale, resale_answers}
+use Rattle.cases.specs.Market.{market, market_answers, market_text}
+
+-- so many cents
+abbrev pub cents : ℕ → Money
+cents n = of_cents (pos n)
+
+-- so many cents, and so many weeks
+abbrev pub both : ℕ × ℕ → Lexicographic Money Weeks
+both n = pair (of_cents (pos n.0)) (of_count (pos n.1))
+
+-- what an offer comes to
+abbrev pub comes_to : ℤ → ℕ → OfferResult
+comes_to payoff weeks = record { payoff = payoff; weeks = weeks }
+
+-- the text of the record of an empty round
+abbrev pub empty_text : List ℕ
+empty_text = ended (map codes ("K 1" ∷ "money" ∷ "I 1" ∷ "cash" ∷ "M 0" ∷ "H 0" ∷ "O 0" ∷ "L 1" ∷ "0" ∷ []))
+
+-- roads from 0 to 1 and back
+abbrev pub two_roads : List Arc
+two_roads = fresh 0 1 4 (negsuc 29) 0 ∷ fresh 1 0 3 (pos 50) 0 ∷ []
+
+-- an offer of cash for cash, with its limit and the two lines
+abbrev pub offer_with : ℕ → Line → Line → List Call
+offer_with limit give get = member (codes "north") ∷ offer 0 limit (give ∷ []) (get ∷ []) ∷ []
+
+-- given and got at these prices
+abbrev pub cash_for_cash : ℕ → ℕ → List Call
+cash_for_cash given got = offer_with 5 (line 0 5 given) (line 0 5 got)
+
+-- the offer comes back with this answer
+abbrev pub Offered : List Call → Answer → Type 0
+Offered calls a = Built calls (numbered 0 ∷ a ∷ []) (λ b. ⊤)
+
+-- limits out of bounds: the offer's, that of its give line and that of its get line
+abbrev pub limits_out : List (List Call)
+limits_out =
+    offer_with 0 (line 0 5 40) (line 0 5 40) ∷ offer_with 1001 (line 0 5 40) (line 0 5 40)
+    ∷ offer_with 5 (line 0 0 40) (line 0 5 40) ∷ offer_with 5 (line 0 1001 40) (line 0 5 40)
+    ∷ offer_with 5 (line 0 5 40) (line 0 0 40) ∷ offer_with 5 (line 0 5 40) (line 0 1001 40) ∷ []
+
+-- prices out of bounds
+abbrev pub prices_out : List (List Call)
+prices_out = offer_with 5 (line 0 5 1000001) (line 0 5 40) ∷ offer_with 5 (line 0 5 40) (line 0 5 1000001) ∷ []
+
+-- the numbers that come out: worths and rises in cents, or in cents and weeks, a length in bytes, and the numbers of refusals and of offers
+pub record Numbers : Type 0 where
+  pub empty_worth : ℕ
+  pub empty_worth_with_weeks : ℕ × ℕ
+  pub chain_rise : ℕ
+  pub rise_with_two : ℕ
+  pub rise_with_none : ℕ
+  pub rise_at_70 : ℕ
+  pub rise_at_70_with_weeks : ℕ × ℕ
+  pub rise_at_69 : ℕ
+  pub rise_at_69_with_weeks : ℕ × ℕ
+  pub resale_rise : ℕ
+  pub resale_rise_with_none : ℕ
+  pub resale_rise_with_one : ℕ
+  pub market_rise : ℕ
+  pub market_rise_with_weeks : ℕ × ℕ
+  pub record_length : ℕ
+  pub sheet_worth : ℕ
+  pub empty_record : ℕ
+  pub chain_record : ℕ
+  pub raised_record : ℕ
+  pub cash_record : ℕ
+  pub weeks_record : ℕ × ℕ
+  pub market_record : ℕ
+  pub refusal_with_79 : ℕ
+  pub refusal_of_twos : ℕ
+  pub refusal_of_fours : ℕ
+  pub refusal_of_cut : ℕ
+  pub line_of_cut : ℕ
+  pub roads_rise : ℕ
+  pub refusal_of_loop : ℕ
+  pub offer_at_same_price : ℕ
+  pub offer_at_lower_price : ℕ
+  pub offer_at_highest : ℕ
+  pub offer_at_lowest : ℕ
+  pub refusal_of_limits : ℕ
+  pub refusal_of_prices : ℕ
+
+-- what comes out
+pub record Cases (x : Numbers) : Type 0 where
+  -- the empty round by money, and by money then weeks: improve answers best, and its network is worth nothing
+  pub empty_round : Closed [] [] (λ n. Best money n × (value money n ≡ cents x.empty_worth))
+  pub empty_round_with_weeks : Closed [] [] (λ n. Best (pile money weeks) n × (value (pile money weeks) n ≡ both x.empty_worth_with_weeks))
+  -- the chain round by money: improve rises and then answers best, and clear rises by as much
+  pub chain_round : Closed (chain [] 160) (chain_answers []) (λ n. RisesOnce money (cents x.chain_rise) n × Clears money (cents x.chain_rise) n)
+  -- by money with a cash holding of member 2, of 2 units and of 0 units
+  pub two_held : Closed (chain (hold 2 0 2 ∷ []) 160) (chain_answers (done ∷ [])) (Clears money (cents x.rise_with_two))
+  pub none_held : Closed (chain (hold 2 0 0 ∷ []) 160) (chain_answers (done ∷ [])) (Clears money (cents x.rise_with_none))
+  -- with the last price 70 and 69, by money and by money then weeks
+  pub at_70 : Closed (chain [] 70) (chain_answers []) (λ n. Clears money (cents x.rise_at_70) n × Clears (pile money weeks) (both x.rise_at_70_with_weeks) n)
+  pub at_69 : Closed (chain [] 69) (chain_answers []) (λ n. Clears money (cents x.rise_at_69) n × Clears (pile money weeks) (both x.rise_at_69_with_weeks) n)
+  -- the resale round by money, where quay has no holding of the week, one of 0 units and one of 1 unit
+  pub resale_without : Closed (resale []) (resale_answers []) (Clears money (cents x.resale_rise))
+  pub resale_with_none : Closed (resale (hold 1 1 0 ∷ [])) (resale_answers (done ∷ [])) (Clears money (cents x.resale_rise_with_none))
+  pub resale_with_one : Closed (resale (hold 1 1 1 ∷ [])) (resale_answers (done ∷ [])) (Clears money (cents x.resale_rise_with_one))
+  -- the example market, by money and by money then weeks
+  pub market_clears : Closed market market_answers (λ n. Clears money (cents x.market_rise) n × Clears (pile money weeks) (both x.market_rise_with_weeks) n)
+  -- the texts are records of those rounds
+  pub is_empty_record : Built [] [] (RecordOf empty_text by_money)
+  pub is_chain_record : Built (chain [] 160) (chain_answers []) (RecordOf (money_text (codes "3") chain_levels) by_money)
+  pub is_cash_record : Built (chain (hold 2 0 2 ∷ []) 160) (chain_answers (done ∷ [])) (RecordOf cash_text by_money)
+  pub is_weeks_record : Built (chain [] 70) (chain_answers []) (RecordOf weeks_text by_money_then_weeks)
+  pub is_market_record : Built market market_answers (RecordOf market_text by_money)
+  -- file writes that of the chain round, and clear_sheet fills in its sheet
+  pub chain_filed : Built (chain [] 160) (chain_answers []) (λ b. Filing (money_text (codes "3") chain_levels) by_money b threes filed_levels x.record_length)
+  pub sheet_cleared : ClearingSheet chain_sheet (total.Money (cents x.sheet_worth))
+  -- they pass, and that of the chain round does with all levels 7 higher too
+  pub empty_passes : Passing empty_text (total.Money (cents x.empty_record)) []
+  pub chain_passes : Passing (money_text (codes "3") chain_levels) (total.Money (cents x.chain_record)) (comes_to (negsuc 299) 0 ∷ comes_to (pos 90) 3 ∷ comes_to (pos 480) 3 ∷ [])
+  pub raised_passes : Passing (money_text (codes "3") raised_levels) (total.Money (cents x.raised_record)) (comes_to (negsuc 299) 0 ∷ comes_to (pos 90) 3 ∷ comes_to (pos 480) 3 ∷ [])
+  pub cash_passes : Passing cash_text (total.Money (cents x.cash_record)) (comes_to (negsuc 199) 0 ∷ comes_to (pos 60) 2 ∷ comes_to (pos 320) 2 ∷ [])
+  pub weeks_passes : Passing weeks_text (total.MoneyThenWeeks (both x.weeks_record)) (comes_to (negsuc 299) 0 ∷ comes_to (pos 90) 3 ∷ comes_to (pos 210) 3 ∷ [])
+  pub market_passes : Passing market_text (total.Money (cents x.market_record)) (comes_to (negsuc 3999) 20 ∷ comes_to (pos 3500) 30 ∷ comes_to (negsuc 199) 30 ∷ comes_to (negsuc 4799) 0 ∷ comes_to (pos 1200) 20 ∷ comes_to (pos 5800) 40 ∷ [])
+  -- with -79 for -80, with 2 units on each line, and with 4, it fails
+  pub with_79_fails : Failing (money_text (codes "3") levels_with_79) x.refusal_with_79 0
+  pub twos_fail : Failing (money_text (codes "2") chain_levels) x.refusal_of_twos 0
+  pub fours_fail : Failing (money_text (codes "4") chain_levels) x.refusal_of_fours 0
+  -- without its line 35 it is refused there
+  pub cut_fails : Failing cut_text x.refusal_of_cut x.line_of_cut
+  -- the haul table by money: improve rises and then answers best, and clear rises by as much
+  pub roads : Hauled two_roads (numbered 0 ∷ numbered 1 ∷ []) (λ n. RisesOnce money (cents x.roads_rise) n × Clears money (cents x.roads_rise) n)
+  -- cash given at a lower price than got is refused, and else accepted
+  pub loop : Offered (cash_for_cash 20 40) (refused x.refusal_of_loop)
+  pub same_price : Offered (cash_for_cash 40 40) (numbered x.offer_at_same_price)
+  pub lower_price : Offered (cash_for_cash 40 20) (numbered x.offer_at_lower_price)
+  -- the highest and the lowest limits and prices are accepted, and those beyond are refused
+  pub highest : Offered (offer_with 1000 (line 0 1000 1000000) (line 0 1000 1000000)) (numbered x.offer_at_highest)
+  pub lowest : Offered (offer_with 1 (line 0 1 0) (line 0 1 0)) (numbered x.offer_at_lowest)
+  pub limits : AllByRecursion (λ calls. Offered calls (refused x.refusal_of_limits)) limits_out
+  pub prices : AllByRecursion (λ calls. Offered calls (refused x.refusal_of_prices)) prices_out

@@ -1,0 +1,4 @@
+// The worked cases: what the rules of the exchange make of them.
+#![tactic(auto)]
+
+pub mod worked;

@@ -1,9 +1,0 @@
-use Rattle.std.proofs.Common.{◌≤◌, rules}
-use Rattle.std.proofs.lemmas.Iterator.{YieldsList-from_slice, cases_from_any}
-use Rattle.terms.proofs.Tests.{any_decides}
-use Rattle.terms.proofs.lines.has_unknown.Goals as goal
-
-pub returns : goal.returns
-returns c =
-    let ls = YieldsList-from_slice c.args.ls.now c.iter.ensures.rest in
-    any_decides (λ l. c.args.items ≤ l.item) _ _ (cases_from_any _ _ _ (λ l. c.args.items ≤ l.item) (λ l. c.args.items ≤ l.item → ⊥) c.any.ensures.ran ls (λ x q k. search rules) (λ x q k. search rules))

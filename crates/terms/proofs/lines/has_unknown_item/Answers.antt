@@ -1,0 +1,12 @@
+use Rattle.std.proofs.Common.{◌≤◌, rules}
+use Rattle.std.proofs.lemmas.Iterator.{YieldsList-from_slice, cases_from_any}
+use Rattle.std.proofs.lemmas.Iterator.Consumers.{YieldsList-from_chain}
+use Rattle.terms.proofs.Tests.{any_decides, either_decides}
+use Rattle.terms.proofs.lines.has_unknown_item.Goals as goal
+
+pub returns : goal.returns
+returns c =
+    let give = c.args.give.now in
+    let get = c.args.get.now in
+    either_decides (λ l. c.args.items ≤ l.item) _ give get
+    (any_decides (λ l. c.args.items ≤ l.item) _ _ (cases_from_any _ _ _ (λ l. c.args.items ≤ l.item) (λ l. c.args.items ≤ l.item → ⊥) c.any.ensures.ran (YieldsList-from_chain (YieldsList-from_slice give (cc)) (YieldsList-from_slice get (cc)) (cc) (cc)) (λ x q k. search rules) (λ x q k. search rules)))

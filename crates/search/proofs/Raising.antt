@@ -211,7 +211,7 @@ module _ {W : Type 0} (G : Kind W) (n : ℕ) (ls : List Arc) where
           let v = z.0 in
           le_lt_absurd G (potential G.ops xs' v) (potential G.ops xs v) (le_trans G (potential G.ops xs' v) (reach G N (flow_of ls) k v) (potential G.ops xs v) (under G n ls xs' ks' w.forest w.low k v (omega arith) z.1) (r.above v z.1)) z.2
 
-same_on : {W : Type 0} {s t u : Search W} → Same s t → Same t u → Same s u
+pub same_on : {W : Type 0} {s t u : Search W} → Same s t → Same t u → Same s u
 same_on a b = record { net = b.net ∙ a.net; held = b.held ∙ a.held; linked = b.linked ∙ a.linked }
 
 -- the search t has come from s by relaxing the steps numbered below k

@@ -11,6 +11,7 @@ use Rattle.search.specs.declared.cycle.Measure.{Measure}
 use Rattle.search.specs.declared.sweep.Search.{Search}
 use Rattle.search.specs.Links.{Unlinked, head_of, climb}
 use Rattle.search.specs.Sweeps.{Small, Forest, Low, Closing, Offered, Relaxed, Sweeps, Found}
+use Rattle.search.specs.Passes.{Passed}
 use Rattle.search.specs.Cycles.{Measured}
 
 -- the network whose arcs were read
@@ -55,6 +56,10 @@ module _ {W : Type 0} (o : Ops W) where
   -- a sweep takes s to s'
   abbrev pub SweepsTo : Search W → Search W → ControlFlow Step Bool → Type 0
   SweepsTo s s' r = Sweeps o s.net.nodes s.net.arcs.now s.potentials.now s'.potentials.now s'.links.now r
+
+  -- a pass takes s to s'
+  abbrev pub PassesTo : Search W → Search W → ControlFlow Step Bool → Type 0
+  PassesTo s s' r = Passed o s.net.nodes s.net.arcs.now s.potentials.now s'.potentials.now s'.links.now r
 
   -- the search ends at s
   abbrev pub Finds : Search W → Option Step → Type 0

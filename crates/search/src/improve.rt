@@ -14,7 +14,7 @@ use worth::kind::Worth;
 
 // Reads the arcs of a network into a table, since the search reads each of them many times. The table is lent: where it was
 // answered it was copied once more, and small networks took nearly twice as long to clear.
-fn read_arcs<N: Network>(net: &N, table: &mut Table<Arc, 448>)
+pub(crate) fn read_arcs<N: Network>(net: &N, table: &mut Table<Arc, 448>)
     requires { table.old ≡ [] }
     ensures { table.new ≡ (N.Network.net net.now).arcs }
 {

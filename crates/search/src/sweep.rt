@@ -22,10 +22,14 @@ pub(crate) struct Search<'a, W> {
 }
 
 impl<'a, W: Worth> Search<'a, W> {
-    ghost use Rattle.search.specs.Searches.{Same, Begun, Growing, Grounded, Offers, Relaxes, SweepsTo, Finds, ClosedBy, Closes};
+    ghost use Rattle.search.specs.Searches.{Same, Begun, Growing, Grounded, Offers, Relaxes, SweepsTo, PassesTo, Finds, ClosedBy, Closes};
 
     // Nothing is raised yet.
-    pub(crate) fn new(net: Residual<'a>, potentials: &'a mut [W], links: &'a mut [Option<Step>]) -> Search<'a, W>
+    pub(crate) fn new(
+        net: Residual<'a>,
+        potentials: &'a mut [W],
+        links: &'a mut [Option<Step>],
+    ) -> Search<'a, W>
         requires long { length potentials.old ≡ net.nodes }
         requires links_long { net.nodes ≤ length links.old }
         requires unlinked { Unlinked links.old }
@@ -35,6 +39,26 @@ impl<'a, W: Worth> Search<'a, W> {
         ensures begun { Begun W.ops result }
     {
         blank(potentials);
+        Search {
+            net,
+            potentials,
+            links,
+        }
+    }
+
+    // A search that goes on from potentials and links that are there already.
+    pub(crate) fn resume(
+        net: Residual<'a>,
+        potentials: &'a mut [W],
+        links: &'a mut [Option<Step>],
+    ) -> Search<'a, W>
+        requires { net.nodes ≤ length links.old }
+        ensures net { result.net ≡ net.entry }
+        ensures held { result.potentials.ghost_name ≡ potentials.entry.ghost_name }
+        ensures linked { result.links.ghost_name ≡ links.entry.ghost_name }
+        ensures potentials { result.potentials.now ≡ potentials.old }
+        ensures links { result.links.now ≡ links.old }
+    {
         Search {
             net,
             potentials,
@@ -111,6 +135,23 @@ impl<'a, W: Worth> Search<'a, W> {
         let mut moved = false;
         // a step names its arc by number
         for i in 0..self.net.arcs.len() {
+            for step in both_ways(i) {
+                moved |= self.relax(step)?;
+            }
+        }
+        ControlFlow::Continue(moved)
+    }
+
+    // Relaxes the steps along each arc from number `from` on: whether some potential rose, or else a step that closes a cycle
+    // worth more than none.
+    pub(crate) fn pass(&mut self, from: usize) -> ControlFlow<Step, bool>
+        requires start { from ≤ length self.old.net.arcs.now }
+        requires growing { Growing W.ops 999000 self.old }
+        ensures same { Same self.old self.new }
+        ensures passed { PassesTo W.ops self.old self.new result }
+    {
+        let mut moved = false;
+        for i in from..self.net.arcs.len() {
             for step in both_ways(i) {
                 moved |= self.relax(step)?;
             }

@@ -1,5 +1,5 @@
 -- Clearing, rise by rise.
-use Rattle.std.proofs.Common.{◌≡◌, ◌+◌, ◌<◌, ◌≤◌, List, length, Ok, Err, Result, sym, refl, ap, ◌∙◌, subst, arith, None, Option, Some}
+use Rattle.std.proofs.Common.{◌≡◌, ◌+◌, ◌<◌, ◌≤◌, List, Ok, Err, Result, sym, refl, ap, ◌∙◌, subst, arith, None, Option, Some}
 use Rattle.worth.specs.Kinds.{Ops, Laws}
 use Rattle.tables.specs.declared.refusal.Refusal.{Refusal}
 use Rattle.flow.specs.Groups.{kind}
@@ -19,13 +19,14 @@ pub climb_nodes : {W : Type 0} {o : Ops W} {s t : Net} {sum : W} → Climb o s s
 climb_nodes still = refl
 climb_nodes (more c i) = i.nodes ∙ climb_nodes c
 
+-- and their sum
+pub climb_small : {W : Type 0} {o : Ops W} (laws : Laws o) {s t : Net} {sum : W} → Climb o s sum t → Sound s → Sound t → o.size sum ≤ 896000
+climb_small {o = o} laws {s} {t} {sum} c p q = less_small laws s t sum p q (sym (ap (λ y. o.plus y (o.neg (value o s))) (climb_value laws c ∙ laws.comm (value o s) sum) ∙ laws.assoc sum (value o s) (o.neg (value o s)) ∙ ap (o.plus sum) (laws.inverse (value o s)) ∙ unit_right (kind o laws) sum))
+
 -- clearing under way: what has become of the network s and the work table, with the sum of the rises
 pub record UnderWay {W : Type 0} (o : Ops W) (s t : Net) (work work' : List W) (sum : W) : Type 0 where
   pub climb : Climb o s sum t
   pub beyond : Beyond o s.nodes work work'
-
-pub begun : {W : Type 0} (o : Ops W) (s : Net) (work : List W) (sum : W) → s.nodes ≤ length work → sum ≡ o.none → UnderWay o s s work work sum
-begun o s work sum h e = record { climb = subst (λ x. Climb o s x s) (sym e) still; beyond = record { enough = h; long = refl; rest = λ v l. refl } }
 
 -- the next improve takes the network t and the work table work₁ to u and work₂
 module _ {W : Type 0} {o : Ops W} (laws : Laws o) {s t : Net} {work work₁ : List W} {sum : W} (w : UnderWay o s t work work₁ sum) (u : Net) (work₂ : List W) where
@@ -54,10 +55,7 @@ module _ {W : Type 0} {o : Ops W} (laws : Laws o) {s t : Net} {work work₁ : Li
     goes_on sum' e = record { climb = subst (λ x. Climb o s x u) (sym e) (more w.climb rose.0); beyond = beyond_on rose.2 }
 
     pub can_add : Sound s → Sound t → Sound u → o.size sum + o.size rise ≤ 4194304
-    can_add p q z = omega (arith, sum_small, less_small laws t u rise q z rose.0.rises)
-      where
-        sum_small : o.size sum ≤ 896000
-        sum_small = less_small laws s t sum p q (sym (ap (λ y. o.plus y (o.neg (value o s))) (climb_value laws w.climb ∙ laws.comm (value o s) sum) ∙ laws.assoc sum (value o s) (o.neg (value o s)) ∙ ap (o.plus sum) (laws.inverse (value o s)) ∙ unit_right (kind o laws) sum))
+    can_add p q z = omega (arith, climb_small laws w.climb p q, less_small laws t u rise q z rose.0.rises)
 
     pub fewer_left : Sound u → beats o (graph o u) (value o u) < beats o (graph o t) (value o t)
     fewer_left z = measure_falls (kind o laws) t u rise z rose.0

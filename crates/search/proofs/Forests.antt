@@ -17,7 +17,7 @@ use Rattle.flow.proofs.Cuts.{visits, visits_length, visits_in}
 use Rattle.flow.proofs.Reach.{reach, walk_under}
 use Rattle.network.specs.Potentials.{potential}
 use Rattle.search.specs.Links.{SoundArcs, tail_of, head_of, link, Unlinked, Linked, Up, line, Rooted, Trail, onto}
-use Rattle.search.specs.Sweeps.{offer, Joined, Forest}
+use Rattle.search.specs.Sweeps.{Low, offer, Joined, Forest}
 use Rattle.search.proofs.Steps.{bounded}
 use Rattle.search.proofs.Ways.{none_some, same_some, one_way}
 
@@ -60,6 +60,14 @@ module _ (ls : List Arc) where
       more : (v ≡ x → ⊥) → (p : List Step) × Up ls (set ks v (Some s)) (tail_of ls t) p → (p : List Step) × Up ls (set ks v (Some s)) x p
       more d z = (t ∷ z.0, (link_off ks v s x d ∙ w.0, z.1))
 
+-- a node that gets a link is no root, and the others stay low
+pub set_low : {W : Type 0} (G : Kind W) (xs : List W) (ks : List (Option Step)) (v : ℕ) (a : W) (s : Step) → v < length ks → Low G.ops xs ks → Low G.ops (set xs v a) (set ks v (Some s))
+set_low G xs ks v a s l low x e =
+    ⊎_elim
+    (λ same. absurd (none_some (link (set ks v (Some s)) x) s e (subst (λ y. link (set ks v (Some s)) y ≡ Some s) same (link_here ks v s l))))
+    (λ d. subst (λ z. Le G.ops z G.ops.none) (sym (get_or-set_other xs v x a G.ops.none (λ f. d (sym f)))) (low x (sym (link_off ks v s x d) ∙ e)))
+    (cases_eq v x)
+
 module _ {W : Type 0} (G : Kind W) (n : ℕ) (ls : List Arc) where
   abbrev N : Graph W
   N = net G.ops n ls
@@ -90,8 +98,10 @@ module _ {W : Type 0} (G : Kind W) (n : ℕ) (ls : List Arc) where
     links_long = f;
     rooted = λ v l. ([], unlinked v);
     joined = λ v s q. absurd (none_some (link ks v) s (unlinked v) q);
-    low = λ v q. le_eq G (potential G.ops xs v) G.ops.none (none v);
   }
+
+  pub bare_low : (xs : List W) (ks : List (Option Step)) → ((v : ℕ) → potential G.ops xs v ≡ G.ops.none) → Low G.ops xs ks
+  bare_low xs ks none v q = le_eq G (potential G.ops xs v) G.ops.none (none v)
 
   module _ (xs : List W) (ks : List (Option Step)) (f : Forest G.ops n ls xs ks) where
     abbrev L : ℕ → W
@@ -138,15 +148,16 @@ module _ {W : Type 0} (G : Kind W) (n : ℕ) (ls : List Arc) where
       walk : List Step
       walks : Walk N (flow_of ls) source walk v
       apart : Apart (visits N walk v)
-      most : Le G.ops a (gain G.ops N walk)
+      root : link ks source ≡ None
+      most : Le G.ops a (G.ops.plus (L source) (gain G.ops N walk))
       long : length walk ≡ m
 
     rooting : (v x : ℕ) (q p : List Step) → Up ls ks x q → Walk N (flow_of ls) x p v → Apart (visits N p v) → Below ls ks (length q) (visits N p v) → Rooting v (G.ops.plus (L x) (gain G.ops N p)) (length q + length p)
-    rooting v x [] p up w apart deep = record { source = x; walk = p; walks = w; apart = apart; most = subst (Le G.ops (G.ops.plus (L x) (gain G.ops N p))) (G.laws.neutral (gain G.ops N p)) (le_right G (L x) G.ops.none (gain G.ops N p) (f.low x up)); long = omega arith }
+    rooting v x [] p up w apart deep = record { source = x; walk = p; walks = w; apart = apart; root = up; most = le_eq G (G.ops.plus (L x) (gain G.ops N p)) (G.ops.plus (L x) (gain G.ops N p)) refl; long = omega arith }
     rooting v x (t ∷ q) p up w apart deep =
         let j = f.joined x t up.0 in
         let r = rooting v (tail_of ls t) q (t ∷ p) up.1 (further x t p v j w) (below_fresh ls ks (tail_of ls t) q (visits N p v) up.1 deep, apart) ((q, up.1, omega arith), below_less ls ks (length q) (suc (length q)) (visits N p v) (omega arith) deep) in
-        record { source = r.source; walk = r.walk; walks = r.walks; apart = r.apart; most = le_trans G (G.ops.plus (L x) (gain G.ops N p)) (G.ops.plus (L (tail_of ls t)) (gain G.ops N (t ∷ p))) (gain G.ops N r.walk) (up_gains x t p j) r.most; long = let e = r.long in omega arith }
+        record { source = r.source; walk = r.walk; walks = r.walks; apart = r.apart; root = r.root; most = le_trans G (G.ops.plus (L x) (gain G.ops N p)) (G.ops.plus (L (tail_of ls t)) (gain G.ops N (t ∷ p))) (G.ops.plus (L r.source) (gain G.ops N r.walk)) (up_gains x t p j) r.most; long = let e = r.long in omega arith }
 
     from_root : (v : ℕ) (q : List Step) → Up ls ks v q → Rooting v (G.ops.plus (L v) G.ops.none) (length q + 0)
     from_root v q up = rooting v v q [] up refl (tt, tt) ((q, up, omega arith), tt)
@@ -158,12 +169,14 @@ module _ {W : Type 0} (G : Kind W) (n : ℕ) (ls : List Arc) where
         omega arith
 
     -- a potential is at most the greatest worth of a walk of fewer steps than there are nodes
-    pub under : (k v : ℕ) → n ≤ suc k → v < n → Le G.ops (L v) (reach G N (flow_of ls) k v)
-    under k v h l =
+    pub under : Low G.ops xs ks → (k v : ℕ) → n ≤ suc k → v < n → Le G.ops (L v) (reach G N (flow_of ls) k v)
+    under low k v h l =
         let q = f.rooted v l in
         let t = from_root v q.0 q.1 in
         let few = few_steps v (length q.0 + 0) (G.ops.plus (L v) G.ops.none) l t in
-        le_trans G (L v) (gain G.ops N t.walk) (reach G N (flow_of ls) k v) (subst (λ z. Le G.ops z (gain G.ops N t.walk)) (unit_right G (L v)) t.most) (walk_under G N (flow_of ls) k t.source t.walk v t.walks (omega arith))
+        let below = subst (Le G.ops (G.ops.plus (L t.source) (gain G.ops N t.walk))) (G.laws.neutral (gain G.ops N t.walk)) (le_right G (L t.source) G.ops.none (gain G.ops N t.walk) (low t.source t.root)) in
+        let most = le_trans G (G.ops.plus (L v) G.ops.none) (G.ops.plus (L t.source) (gain G.ops N t.walk)) (gain G.ops N t.walk) t.most below in
+        le_trans G (L v) (gain G.ops N t.walk) (reach G N (flow_of ls) k v) (subst (λ z. Le G.ops z (gain G.ops N t.walk)) (unit_right G (L v)) most) (walk_under G N (flow_of ls) k t.source t.walk v t.walks (omega arith))
 
     -- a way up is shorter than there are nodes
     pub way_short : (v : ℕ) (q : List Step) → v < n → Up ls ks v q → length q < n
@@ -193,7 +206,6 @@ module _ {W : Type 0} (G : Kind W) (n : ℕ) (ls : List Arc) where
         links_long = omega (arith, length-set ks v (Some s), f.links_long);
         rooted = λ x l. reroot ls ks v s at_links q (avoids ls ks v s (tail_of ls s) q fresh up) x (f.rooted x l).0 (f.rooted x l).1;
         joined = joined';
-        low = low';
       }
         where
           v : ℕ
@@ -231,6 +243,3 @@ module _ {W : Type 0} (G : Kind W) (n : ℕ) (ls : List Arc) where
 
           joined' : (x : ℕ) (t : Step) → link (set ks v (Some s)) x ≡ Some t → Joined G.ops n ls ys x t
           joined' x t e = ⊎_elim (λ same. subst₂ (Joined G.ops n ls ys) same (same_some (link (set ks v (Some s)) x) s t (subst (λ y. link (set ks v (Some s)) y ≡ Some s) same (link_here ks v s at_links)) e) at_v) (λ d. kept x t d (f.joined x t (sym (link_off ks v s x d) ∙ e))) (cases_eq v x)
-
-          low' : (x : ℕ) → link (set ks v (Some s)) x ≡ None → Le G.ops (potential G.ops ys x) G.ops.none
-          low' x e = ⊎_elim (λ same. absurd (none_some (link (set ks v (Some s)) x) s e (subst (λ y. link (set ks v (Some s)) y ≡ Some s) same (link_here ks v s at_links)))) (λ d. subst (λ z. Le G.ops z G.ops.none) (sym (off x d)) (f.low x (sym (link_off ks v s x d) ∙ e))) (cases_eq v x)

@@ -38,7 +38,7 @@ module _ {W : Type 0} (G : Kind W) (N : Graph W) (L : ℕ → W) (u : ℕ → �
 -- where a search ends without a cycle, the network is best
 pub best : {W : Type 0} (G : Kind W) (s : Search W) → Finds G.ops s None → {before : Net} → s.net.nodes ≡ before.nodes → s.net.arcs.now ≡ before.arcs → (work : List W) → length work ≡ before.nodes → (work' : List W) → length work' ≡ length work → work' ≡ s.potentials.now → {r : Option W} → r ≡ None → Improving G.ops before before work work' (Ok r)
 best G s found {before} nodes-is arcs-is work long work' same is none =
-    let f = subst₂ (λ n ls. Found G.ops n ls s.potentials.now s.links None) nodes-is arcs-is found in
+    let f = subst₂ (λ n ls. Found G.ops n ls s.potentials.now s.links.now None) nodes-is arcs-is found in
     let fits = subst (λ xs. Fits G.ops (graph G.ops before) (potential G.ops xs) (flow_in before)) (sym is) f.0 in
     subst (λ x. Improving G.ops before before work work' (Ok x)) (sym none) (
       refl,

@@ -9,3 +9,4 @@ pub mod Idle
 pub mod Standing
 pub mod Beaten
 pub mod Clearing
+pub mod Quickly

@@ -10,7 +10,8 @@ use Rattle.search.specs.declared.cycle.Cycle.{Cycle}
 use Rattle.search.specs.declared.cycle.Measure.{Measure}
 use Rattle.search.specs.declared.sweep.Search.{Search}
 use Rattle.search.specs.Links.{Unlinked, head_of, climb}
-use Rattle.search.specs.Sweeps.{Small, Forest, Closing, Offered, Relaxed, Sweeps, Found}
+use Rattle.search.specs.Sweeps.{Small, Forest, Low, Closing, Offered, Relaxed, Sweeps, Found}
+use Rattle.search.specs.Passes.{Passed}
 use Rattle.search.specs.Cycles.{Measured}
 
 -- the network whose arcs were read
@@ -21,23 +22,28 @@ net_of r = record { nodes = r.nodes; arcs = r.arcs.now }
 abbrev pub round : Cycle → List Step
 round c = let ls = c.links.net.arcs.now in let ks = c.links.last.now in climb ls ks (head_of ls c.closing) (Some c.closing) (length ks)
 
--- both are over one network, and write their potentials into one table
+-- both are over one network, and write their potentials into one table and their links into one
 pub record Same {W : Type 0} (s t : Search W) : Type 0 where
   pub net : t.net ≡ s.net
   pub held : t.potentials.ghost_name ≡ s.potentials.ghost_name
+  pub linked : t.links.ghost_name ≡ s.links.ghost_name
 
 module _ {W : Type 0} (o : Ops W) where
   -- nothing is raised yet
   pub record Begun (s : Search W) : Type 0 where
     pub potentials_long : length s.potentials.now ≡ s.net.nodes
     pub none : (v : ℕ) → potential o s.potentials.now v ≡ o.none
-    pub unlinked : Unlinked s.links
-    pub links_long : s.net.nodes ≤ length s.links
+    pub unlinked : Unlinked s.links.now
+    pub links_long : s.net.nodes ≤ length s.links.now
 
   -- the links are a forest, and no potential has a size above b
   pub record Growing (b : ℕ) (s : Search W) : Type 0 where
-    pub forest : Forest o s.net.nodes s.net.arcs.now s.potentials.now s.links
+    pub forest : Forest o s.net.nodes s.net.arcs.now s.potentials.now s.links.now
     pub small : Small o b s.potentials.now
+
+  -- the potentials of nodes without a link are at most none
+  abbrev pub Grounded : Search W → Type 0
+  Grounded s = Low o s.potentials.now s.links.now
 
   -- what step t offers in s
   abbrev pub Offers : Search W → Step → Option W → Type 0
@@ -45,19 +51,23 @@ module _ {W : Type 0} (o : Ops W) where
 
   -- relaxing step t takes s to s'
   abbrev pub Relaxes : Search W → Search W → Step → ControlFlow Step Bool → Type 0
-  Relaxes s s' t r = Relaxed o s.net.nodes s.net.arcs.now s.potentials.now s.links s'.potentials.now s'.links t r
+  Relaxes s s' t r = Relaxed o s.net.nodes s.net.arcs.now s.potentials.now s.links.now s'.potentials.now s'.links.now t r
 
   -- a sweep takes s to s'
   abbrev pub SweepsTo : Search W → Search W → ControlFlow Step Bool → Type 0
-  SweepsTo s s' r = Sweeps o s.net.nodes s.net.arcs.now s.potentials.now s'.potentials.now s'.links r
+  SweepsTo s s' r = Sweeps o s.net.nodes s.net.arcs.now s.potentials.now s'.potentials.now s'.links.now r
+
+  -- a pass takes s to s'
+  abbrev pub PassesTo : Search W → Search W → ControlFlow Step Bool → Type 0
+  PassesTo s s' r = Passed o s.net.nodes s.net.arcs.now s.potentials.now s'.potentials.now s'.links.now r
 
   -- the search ends at s
   abbrev pub Finds : Search W → Option Step → Type 0
-  Finds s r = Found o s.net.nodes s.net.arcs.now s.potentials.now s.links r
+  Finds s r = Found o s.net.nodes s.net.arcs.now s.potentials.now s.links.now r
 
   -- step t closes a cycle worth more than none
   abbrev pub ClosedBy : Search W → Step → Type 0
-  ClosedBy s t = Closing o s.net.nodes s.net.arcs.now s.links t
+  ClosedBy s t = Closing o s.net.nodes s.net.arcs.now s.links.now t
 
   -- the cycle is worth more than none
   abbrev pub Closes : Cycle → Type 0

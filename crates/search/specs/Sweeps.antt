@@ -23,6 +23,10 @@ code (Backward i) = 2 * i + 1
 abbrev pub Small : {W : Type 0} → Ops W → ℕ → List W → Type 0
 Small G b xs = (v : ℕ) → G.size (potential G xs v) ≤ b
 
+-- the potentials xs of nodes without a link are at most none
+abbrev pub Low : {W : Type 0} → Ops W → List W → List (Option Step) → Type 0
+Low G xs ks = (v : ℕ) → link ks v ≡ None → Le G (potential G xs v) G.none
+
 module _ {W : Type 0} (G : Ops W) (n : ℕ) (ls : List Arc) where
   -- what a step offers to its head
   abbrev pub offer : List W → Step → W
@@ -39,15 +43,13 @@ module _ {W : Type 0} (G : Ops W) (n : ℕ) (ls : List Arc) where
     pub goes : Open (net G n ls) (flow_of ls) s
     pub most : Le G (potential G xs v) (offer xs s)
 
-  -- a potential xs for each node, and no fewer places for links ks: the links lead from every node up to a root,
-  -- whose potential is at most none
+  -- a potential xs for each node, and no fewer places for links ks: the links lead from every node up to a root
   pub record Forest (xs : List W) (ks : List (Option Step)) : Type 0 where
     pub sound : SoundArcs n ls
     pub potentials_long : length xs ≡ n
     pub links_long : n ≤ length ks
     pub rooted : (v : ℕ) → v < n → (q : List Step) × Up ls ks v q
     pub joined : (v : ℕ) (s : Step) → link ks v ≡ Some s → Joined xs v s
-    pub low : (v : ℕ) → link ks v ≡ None → Le G (potential G xs v) G.none
 
   -- step s and the links from its tail up to its head are a cycle worth more than none
   pub record Closing (ks : List (Option Step)) (s : Step) : Type 0 where
@@ -62,11 +64,12 @@ module _ {W : Type 0} (G : Ops W) (n : ℕ) (ls : List Arc) where
   abbrev pub Relaxed : List W → List (Option Step) → List W → List (Option Step) → Step → ControlFlow Step Bool → Type 0
   Relaxed xs ks xs' ks' s (Continue false) = (0 < residual_of ls s → Le G (offer xs s) (potential G xs (head_of ls s))) × (xs' ≡ xs) × (ks' ≡ ks)
   Relaxed xs ks xs' ks' s (Continue true) = Lt G (potential G xs (head_of ls s)) (offer xs s) × (xs' ≡ slice_set xs (head_of ls s) (offer xs s)) × (ks' ≡ slice_set ks (head_of ls s) (Some s)) × Forest xs' ks'
-  Relaxed xs ks xs' ks' s (Break t) = (t ≡ s) × Closing ks' t
+  Relaxed xs ks xs' ks' s (Break t) = (t ≡ s) × Closing ks' t × (xs' ≡ xs) × (ks' ≡ ks)
 
   -- the steps numbered below k were relaxed, from the potentials xs on
   pub record Swept (xs xs' : List W) (ks' : List (Option Step)) (moved : Bool) (k : ℕ) : Type 0 where
     pub forest : Forest xs' ks'
+    pub low : Low G xs' ks'
     pub up : (v : ℕ) → v < n → Le G (potential G xs v) (potential G xs' v)
     pub done : (s : Step) → Open (net G n ls) (flow_of ls) s → code s < k → Le G (offer xs s) (potential G xs' (head_of ls s))
     pub rose : moved ≡ true → (v : ℕ) × (v < n) × Lt G (potential G xs v) (potential G xs' v)

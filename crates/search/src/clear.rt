@@ -2,12 +2,13 @@ ghost use Rattle.search.specs.Outcomes.{Clearing};
 ghost use Rattle.search.specs.Uses.{Law};
 
 use super::improve::improve;
+use super::quick::climb_quickly;
 use network::improvable::Improvable;
 use network::readable::Network;
 use tables::refusal::Refusal;
 use worth::kind::Worth;
 
-// Improves until the network is best, and answers the sum of the rises; the work table then has potentials that fit.
+// Improves until the network is best, by quick cycles first, and answers the sum of the rises; the work table then has potentials that fit.
 // It ends, since each rise leaves fewer rows of flows within the capacities that are worth more.
 // A work table shorter than the nodes is refused; it is tested first, so that no improve is refused after a rise.
 pub fn clear<N: Improvable>(net: &mut N, work: &mut [N::W]) -> Result<N::W, Refusal>
@@ -16,10 +17,11 @@ pub fn clear<N: Improvable>(net: &mut N, work: &mut [N::W]) -> Result<N::W, Refu
     ensures law { Law N.W.Worth.ops }
 {
     let (nodes, _) = net.counts();
-    if work.len() < nodes as usize {
+    let n = nodes as usize;
+    if work.len() < n {
         return Err(Refusal::Short);
     }
-    let mut sum = N::W::none();
+    let mut sum = climb_quickly(net, &mut work[..n]);
     while let Some(rise) = improve(net, work)? {
         sum = sum.plus(rise);
     }

@@ -4,7 +4,7 @@ ghost use Rattle.search.specs.Uses.{Law};
 
 use super::residual::Residual;
 use super::shift::shift;
-use super::sweep::{Search, blank};
+use super::sweep::{Search, blank, no_links};
 use flow::arc::Arc;
 use network::improvable::Improvable;
 use network::readable::Network;
@@ -14,7 +14,7 @@ use worth::kind::Worth;
 
 // Reads the arcs of a network into a table, since the search reads each of them many times. The table is lent: where it was
 // answered it was copied once more, and small networks took nearly twice as long to clear.
-fn read_arcs<N: Network>(net: &N, table: &mut Table<Arc, 448>)
+pub(crate) fn read_arcs<N: Network>(net: &N, table: &mut Table<Arc, 448>)
     requires { table.old ≡ [] }
     ensures { table.new ≡ (N.Network.net net.now).arcs }
 {
@@ -36,7 +36,8 @@ fn improve_within<N: Improvable>(net: &mut N, work: &mut [N::W]) -> Option<N::W>
         nodes: work.len(),
         arcs: table.as_slice(),
     };
-    let mut search = Search::new(residual, work);
+    let mut links = no_links();
+    let mut search = Search::new(residual, work, &mut links);
     let closing = search.find_cycle()?;
     let cycle = search.cycle(closing);
     let rise = shift(net, cycle, cycle.measure());

@@ -6,6 +6,7 @@ pub mod clear;
 mod cycle;
 pub mod improve;
 mod links;
+mod quick;
 mod residual;
 mod shift;
 mod sweep;

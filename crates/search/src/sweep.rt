@@ -1,8 +1,7 @@
 // The search for a cycle worth more than none: potentials are raised in place, step by step, until a step
 // closes a cycle or a whole sweep raises nothing; then the potentials fit.
-ghost use Rattle.std.specs.Prelude.{◌≡◌, ℕ, [], ◌∷◌, length, slice_index_or};
+ghost use Rattle.std.specs.Prelude.{◌≡◌, ◌≤◌, ℕ, [], ◌∷◌, length, slice_index_or};
 ghost use Rattle.search.specs.Links.{Unlinked};
-ghost use Rattle.search.specs.Searches.{Same, Begun, Growing, Offers, Relaxes, SweepsTo, Finds, ClosedBy, Closes};
 
 use super::cycle::Cycle;
 use super::links::Links;
@@ -12,38 +11,69 @@ use std::ops::ControlFlow;
 use worth::kind::Worth;
 
 // A potential and a link for each node of a network: two rows, since the potentials lie in the work table that the caller lends.
+// Both are lent, so that a search can go on where another ended.
 // `Same` is what each method that writes keeps; `Growing` is no invariant, since its bound differs from call to call.
 #[derive(Drop)]
 pub(crate) struct Search<'a, W> {
     net: Residual<'a>,
     potentials: &'a mut [W],
-    links: [Option<Step>; 272],
+    links: &'a mut [Option<Step>],
+    ghost long: { net.nodes ≤ length links.now },
 }
 
 impl<'a, W: Worth> Search<'a, W> {
+    ghost use Rattle.search.specs.Searches.{Same, Begun, Growing, Grounded, Offers, Relaxes, SweepsTo, PassesTo, Finds, ClosedBy, Closes};
+
     // Nothing is raised yet.
-    pub(crate) fn new(net: Residual<'a>, potentials: &'a mut [W]) -> Search<'a, W>
-        requires { length potentials.old ≡ net.nodes }
+    pub(crate) fn new(
+        net: Residual<'a>,
+        potentials: &'a mut [W],
+        links: &'a mut [Option<Step>],
+    ) -> Search<'a, W>
+        requires long { length potentials.old ≡ net.nodes }
+        requires links_long { net.nodes ≤ length links.old }
+        requires unlinked { Unlinked links.old }
         ensures net { result.net ≡ net.entry }
         ensures held { result.potentials.ghost_name ≡ potentials.entry.ghost_name }
+        ensures linked { result.links.ghost_name ≡ links.entry.ghost_name }
         ensures begun { Begun W.ops result }
     {
         blank(potentials);
         Search {
             net,
             potentials,
-            links: no_links(),
+            links,
+        }
+    }
+
+    // A search that goes on from potentials and links that are there already.
+    pub(crate) fn resume(
+        net: Residual<'a>,
+        potentials: &'a mut [W],
+        links: &'a mut [Option<Step>],
+    ) -> Search<'a, W>
+        requires { net.nodes ≤ length links.old }
+        ensures net { result.net ≡ net.entry }
+        ensures held { result.potentials.ghost_name ≡ potentials.entry.ghost_name }
+        ensures linked { result.links.ghost_name ≡ links.entry.ghost_name }
+        ensures potentials { result.potentials.now ≡ potentials.old }
+        ensures links { result.links.now ≡ links.old }
+    {
+        Search {
+            net,
+            potentials,
+            links,
         }
     }
 
     // The links as they stand.
     fn links(&self) -> Links<'_>
         ensures net { result.net ≡ self.now.net }
-        ensures last { result.last.now ≡ self.now.links }
+        ensures last { result.last.now ≡ self.now.links.now }
     {
         Links {
             net: self.net,
-            last: &self.links,
+            last: self.links,
         }
     }
 
@@ -97,13 +127,31 @@ impl<'a, W: Worth> Search<'a, W> {
     // Relaxes each step once, forward and backward along each arc in turn: whether some potential rose,
     // or else a step that closes a cycle worth more than none.
     fn sweep(&mut self) -> ControlFlow<Step, bool>
-        requires { Growing W.ops 999000 self.old }
+        requires growing { Growing W.ops 999000 self.old }
+        requires grounded { Grounded W.ops self.old }
         ensures same { Same self.old self.new }
         ensures sweeps { SweepsTo W.ops self.old self.new result }
     {
         let mut moved = false;
         // a step names its arc by number
         for i in 0..self.net.arcs.len() {
+            for step in both_ways(i) {
+                moved |= self.relax(step)?;
+            }
+        }
+        ControlFlow::Continue(moved)
+    }
+
+    // Relaxes the steps along each arc from number `from` on: whether some potential rose, or else a step that closes a cycle
+    // worth more than none.
+    pub(crate) fn pass(&mut self, from: usize) -> ControlFlow<Step, bool>
+        requires start { from ≤ length self.old.net.arcs.now }
+        requires growing { Growing W.ops 999000 self.old }
+        ensures same { Same self.old self.new }
+        ensures passed { PassesTo W.ops self.old self.new result }
+    {
+        let mut moved = false;
+        for i in from..self.net.arcs.len() {
             for step in both_ways(i) {
                 moved |= self.relax(step)?;
             }
@@ -144,7 +192,7 @@ pub(crate) fn blank<W: Worth>(work: &mut [W])
 }
 
 // No links, at the full size of a search. They are made apart, so that what is proved of a search does not list its entries.
-fn no_links() -> [Option<Step>; 272]
+pub(crate) fn no_links() -> [Option<Step>; 272]
     ensures long { length result ≡ 272 }
     ensures unlinked { Unlinked result }
 {

@@ -1,15 +1,20 @@
-use Rattle.std.proofs.Common.{arith}
+use Rattle.std.proofs.Common.{◌∙◌, arith}
+use Rattle.std.proofs.lemmas.List.{length-take-le}
+use Rattle.search.proofs.Working.{beyond}
 use Rattle.search.proofs.Standing.{law_holds}
-use Rattle.search.proofs.Clearing.{begun, not_short, ended, goes_on, can_add, fewer_left}
+use Rattle.search.proofs.Clearing.{not_short, ended, goes_on, can_add, fewer_left}
 use Rattle.search.proofs.clear.clear.Goals as goal
 
-pub returns-then-work-nodes-clause-law : goal.returns-then-work-nodes-clause-law
-returns-then-work-nodes-clause-law g c = law_holds g.met.N.W.Worth.lawful
+pub returns-then-work-n-clause-law : goal.returns-then-work-n-clause-law
+returns-then-work-n-clause-law g c = law_holds g.met.N.W.Worth.lawful
 
 pub loop-rise-init : goal.loop-rise-init
 loop-rise-init g c = (
-  begun g.N.W.Worth.ops (g.N.Network.net c.args.net.now) c.args.work.now c.none-sum.result (let e = c.counts-nodes.ensures.0 in let z = c.if-work-nodes.false in omega arith) c.none-sum.ensures,
-  g.met.N.Improvable.itself c.args.net.now,
+  record {
+    climb = c.climb_quickly-sum.ensures.climb;
+    beyond = beyond g.N.W.Worth.ops (g.N.Network.net c.args.net.now) (g.met.N.Network.sound c.args.net.now) c.args.work.now c.climb_quickly-sum.new.potentials c.counts-nodes.result.0 c.counts-nodes.ensures.0 (let e = c.counts-nodes.ensures.0 in let z = c.if-work-n.false in omega arith) (c.climb_quickly-sum.auto.potentials ∙ length-take-le c.counts-nodes.result.0 c.args.work.now c.if-work-n.false);
+  },
+  c.climb_quickly-sum.ensures.kept,
 )
 
 pub returns-in_err-rise-clause-outcome : goal.returns-in_err-rise-clause-outcome

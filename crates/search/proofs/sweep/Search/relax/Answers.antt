@@ -7,7 +7,7 @@ pub passes-requires : goal.passes-requires
 passes-requires g c = rw (c.links.ensures.net, c.links.ensures.last, c.tail-from.ensures) (rooted (kind g.W.Worth.ops g.met.W.Worth.lawful) c.requires c.args.step c.in-Some.ensures.0)
 
 pub returns-then-passes-clause-relaxed : goal.returns-then-passes-clause-relaxed
-returns-then-passes-clause-relaxed g c = (refl, closed (kind g.W.Worth.ops g.met.W.Worth.lawful) c.requires c.args.step c.in-Some.ensures c.links.result c.links.ensures.net c.links.ensures.last c.tail-from.ensures c.head-to.ensures c.passes.ensures c.if-passes.true)
+returns-then-passes-clause-relaxed g c = (refl, closed (kind g.W.Worth.ops g.met.W.Worth.lawful) c.requires c.args.step c.in-Some.ensures c.links.result c.links.ensures.net c.links.ensures.last c.tail-from.ensures c.head-to.ensures c.passes.ensures c.if-passes.true, refl, refl)
 
 pub returns-clause-relaxed : goal.returns-clause-relaxed
 returns-clause-relaxed g c = raised (kind g.W.Worth.ops g.met.W.Worth.lawful) c.requires c.args.step c.in-Some.ensures c.links.result c.links.ensures.net c.links.ensures.last c.tail-from.ensures c.head-to.ensures c.passes.ensures c.if-passes.false
@@ -21,9 +21,9 @@ offset_bounds-self-to g c =
     search rules
 
 pub bounds-self-to-2 : goal.bounds-self-to-2
-bounds-self-to-2 g c = omega (arith, to_node (kind g.W.Worth.ops g.met.W.Worth.lawful) c.requires c.args.step c.in-Some.ensures.0, c.head-to.ensures, c.args.self.now.net.sound.few_nodes)
+bounds-self-to-2 g c = omega (arith, to_node (kind g.W.Worth.ops g.met.W.Worth.lawful) c.requires c.args.step c.in-Some.ensures.0, c.head-to.ensures, c.requires.forest.links_long)
 
 pub offset_bounds-self-to-2 : goal.offset_bounds-self-to-2
 offset_bounds-self-to-2 g c =
-    let h : c.head-to.result < 272 = omega (arith, to_node (kind g.W.Worth.ops g.met.W.Worth.lawful) c.requires c.args.step c.in-Some.ensures.0, c.head-to.ensures, c.args.self.now.net.sound.few_nodes) in
+    let h : c.head-to.result < length c.args.self.now.links.now = omega (arith, to_node (kind g.W.Worth.ops g.met.W.Worth.lawful) c.requires c.args.step c.in-Some.ensures.0, c.head-to.ensures, c.requires.forest.links_long) in
     search rules

@@ -6,7 +6,7 @@ use Rattle.search.proofs.Raising.{both_arc, both_code, may_relax, swept_on, swee
 use Rattle.search.proofs.sweep.Search.sweep.Goals as goal
 
 pub relax-requires : goal.relax-requires
-relax-requires g c = may_relax (kind g.W.Worth.ops g.met.W.Worth.lawful) c.loop-step.invariant c.requires (let few = c.args.self.now.net.sound.few_arcs in let t = c.loop-i-test.true in let k = c.loop-step-test.true in omega arith)
+relax-requires g c = may_relax (kind g.W.Worth.ops g.met.W.Worth.lawful) c.loop-step.invariant c.requires.growing (let few = c.args.self.now.net.sound.few_arcs in let t = c.loop-i-test.true in let k = c.loop-step-test.true in omega arith)
 
 pub loop-step-preserved : goal.loop-step-preserved
 loop-step-preserved g c =

@@ -1,0 +1,167 @@
+-- Passes, cuts, and cycles taken one after another.
+use Rattle.std.proofs.Common.{◌≡◌, ℕ, suc, [], ◌∷◌, ◌+◌, ◌*◌, ◌<◌, ◌≤◌, Bool, true, false, List, length, set, Some, Option, sym, refl, ap, ◌∙◌, subst, subst₂, ap₂, ⊎_elim, arith}
+use Rattle.std.proofs.lemmas.Bool.{cases_eq}
+use Rattle.std.proofs.lemmas.List.{get_or-set_same, get_or-set_other, length-set}
+use Rattle.std.specs.declared.ops.ControlFlow.TheVariants.{Continue, Break}
+use Rattle.flow.specs.Groups.{Kind, Le}
+use Rattle.flow.specs.Arcs.{blank, arc_at, net, SameArcs}
+use Rattle.flow.specs.Steps.{arc, step_worth}
+use Rattle.flow.specs.declared.arc.Arc.{Arc}
+use Rattle.flow.specs.declared.step.Step.{Step}
+use Rattle.flow.specs.declared.step.Step.TheVariants.{Forward, Backward}
+use Rattle.flow.proofs.Rows.{net_same, same_all}
+use Rattle.network.specs.Potentials.{potential}
+use Rattle.network.specs.Networks.{Net, Sound}
+use Rattle.worth.specs.Kinds.{Ops, Laws}
+use Rattle.search.specs.Links.{SoundArcs, tail_of, head_of, residual_of, link, Unlinked, Up}
+use Rattle.search.specs.Sweeps.{Small, offer, Joined, Forest, Closing, Relaxed}
+use Rattle.search.specs.Searches.{Same, Growing}
+use Rattle.search.specs.Passes.{Spared, Cut, Went, Passed}
+use Rattle.search.specs.Outcomes.{Climb, still, more, Improves}
+use Rattle.search.specs.declared.sweep.Search.{Search}
+use Rattle.search.proofs.Forests.{head_in, step_small, bare}
+use Rattle.search.proofs.Raising.{same_on}
+use Rattle.search.proofs.Ways.{none_some}
+use Rattle.search.proofs.Clearing.{less_small, climb_small}
+
+-- the links below v are cut
+pub record Cutting (ls : List Arc) (ks ks' : List (Option Step)) (v : ℕ) : Type 0 where
+  pub long : length ks' ≡ length ks
+  pub done : (x : ℕ) → x < v → Spared ls (link ks x) (link ks' x)
+  pub rest : (x : ℕ) → v ≤ x → link ks' x ≡ link ks x
+
+-- the search t has come from s by relaxing k steps
+pub record WentTo {W : Type 0} (o : Ops W) (s t : Search W) (k : ℕ) : Type 0 where
+  pub same : Same s t
+  pub went : Went o s.net.nodes s.net.arcs.now s.potentials.now t.potentials.now t.links.now k
+
+module _ {W : Type 0} (G : Kind W) (n : ℕ) (ls : List Arc) where
+  went_on : (xs xs₁ xs₂ : List W) (ks₁ ks₂ : List (Option Step)) (k : ℕ) (s : Step) (r : Bool) → arc s < length ls → Went G.ops n ls xs xs₁ ks₁ k → Relaxed G.ops n ls xs₁ ks₁ xs₂ ks₂ s (Continue r) → Went G.ops n ls xs xs₂ ks₂ (k + 1)
+  went_on xs xs₁ xs₂ ks₁ ks₂ k s false known w o = subst₂ (λ ys js. Went G.ops n ls xs ys js (k + 1)) (sym o.1) (sym o.2) (record { forest = w.forest; sizes = λ b h v. let q = w.sizes b h v in omega arith })
+  went_on xs xs₁ xs₂ ks₁ ks₂ k s true known o' o = record { forest = o.3; sizes = sizes }
+    where
+      v : ℕ
+      v = head_of ls s
+
+      v_in : v < n
+      v_in = head_in G n ls o'.forest.sound s known
+
+      at_v : potential G.ops xs₂ v ≡ offer G.ops n ls xs₁ s
+      at_v = ap (λ ys. potential G.ops ys v) o.1 ∙ get_or-set_same xs₁ v (offer G.ops n ls xs₁ s) G.ops.none (let a = v_in in let b = o'.forest.potentials_long in omega arith)
+
+      off_v : (x : ℕ) → (x ≡ v → ⊥) → potential G.ops xs₂ x ≡ potential G.ops xs₁ x
+      off_v x d = ap (λ ys. potential G.ops ys x) o.1 ∙ get_or-set_other xs₁ v x (offer G.ops n ls xs₁ s) G.ops.none d
+
+      sizes : (b : ℕ) → Small G.ops b xs → Small G.ops (b + (k + 1)) xs₂
+      sizes b h x = ⊎_elim (λ e. omega (arith, ap G.ops.size (ap (potential G.ops xs₂) e ∙ at_v), G.laws.size_plus (potential G.ops xs₁ (tail_of ls s)) (step_worth G.ops (net G.ops n ls) s), o'.sizes b h (tail_of ls s), step_small G n ls o'.forest.sound s)) (λ d. omega (arith, ap G.ops.size (off_v x d), o'.sizes b h x)) (cases_eq x v)
+
+  went_closed : (xs xs₁ xs₂ : List W) (ks₁ ks₂ : List (Option Step)) (k : ℕ) (s t : Step) → k ≤ 896 → Went G.ops n ls xs xs₁ ks₁ k → Relaxed G.ops n ls xs₁ ks₁ xs₂ ks₂ s (Break t) → Passed G.ops n ls xs xs₂ ks₂ (Break t)
+  went_closed xs xs₁ xs₂ ks₁ ks₂ k s t few w o = (subst₂ (λ ys js. Went G.ops n ls xs ys js 896) (sym o.2) (sym o.3) (record { forest = w.forest; sizes = λ b h v. let q = w.sizes b h v in omega arith }), o.1)
+
+module _ {W : Type 0} (G : Kind W) {s t : Search W} {k : ℕ} (w : WentTo G.ops s t k) where
+  pub may_go : Small G.ops 999000 s.potentials.now → k ≤ 1000 → Growing G.ops 1000000 t
+  may_go r h = record { forest = subst (λ n. Forest G.ops n.nodes n.arcs.now t.potentials.now t.links.now) (sym w.same.net) w.went.forest; small = λ v. let z = w.went.sizes 999000 r v in omega arith }
+
+  module _ {u : Search W} (same : Same t u) (step : Step) where
+    pub goes_on : arc step < length s.net.arcs.now → (r : Bool) → Relaxed G.ops t.net.nodes t.net.arcs.now t.potentials.now t.links.now u.potentials.now u.links.now step (Continue r) → {k' : ℕ} → k' ≡ k + 1 → WentTo G.ops s u k'
+    goes_on known r o next = record {
+      same = same_on w.same same;
+      went = subst (Went G.ops s.net.nodes s.net.arcs.now s.potentials.now u.potentials.now u.links.now) (sym next) (went_on G s.net.nodes s.net.arcs.now s.potentials.now t.potentials.now u.potentials.now t.links.now u.links.now k step r known w.went (subst (λ n. Relaxed G.ops n.nodes n.arcs.now t.potentials.now t.links.now u.potentials.now u.links.now step (Continue r)) w.same.net o));
+    }
+
+    pub goes_to : (x : Step) → k ≤ 896 → Relaxed G.ops t.net.nodes t.net.arcs.now t.potentials.now t.links.now u.potentials.now u.links.now step (Break x) → Passed G.ops s.net.nodes s.net.arcs.now s.potentials.now u.potentials.now u.links.now (Break x)
+    goes_to x few o = went_closed G s.net.nodes s.net.arcs.now s.potentials.now t.potentials.now u.potentials.now t.links.now u.links.now k step x few w.went (subst (λ n. Relaxed G.ops n.nodes n.arcs.now t.potentials.now t.links.now u.potentials.now u.links.now step (Break x)) w.same.net o)
+
+  pub gone : k ≤ 896 → (moved : Bool) → Passed G.ops s.net.nodes s.net.arcs.now s.potentials.now t.potentials.now t.links.now (Continue moved)
+  gone few moved = record { forest = w.went.forest; sizes = λ b h v. let q = w.went.sizes b h v in omega arith }
+
+-- the arcs below i are read again
+pub record Again (bs ls : List Arc) (i : ℕ) : Type 0 where
+  pub long : length ls ≡ length bs
+  pub each : (j : ℕ) → j < i → arc_at ls j ≡ arc_at bs j
+
+pub again_next : (bs ls : List Arc) (i : ℕ) (a : Arc) {ls' : List Arc} → Again bs ls i → i < length bs → a ≡ arc_at bs i → ls' ≡ set ls i a → {i' : ℕ} → i' ≡ i + 1 → Again bs ls' i'
+again_next bs ls i a r l is set-is next = subst₂ (Again bs) (sym set-is) (sym next) (record { long = length-set ls i a ∙ r.long; each = each })
+  where
+    each : (j : ℕ) → j < i + 1 → arc_at (set ls i a) j ≡ arc_at bs j
+    each j h = ⊎_elim (λ e. ap (arc_at (set ls i a)) e ∙ get_or-set_same ls i a blank (let k = r.long in omega arith) ∙ is ∙ ap (arc_at bs) (sym e)) (λ d. get_or-set_other ls i j a blank d ∙ r.each j (omega arith)) (cases_eq j i)
+
+pub again_all : (ls bs : List Arc) → length ls ≡ length bs → ((j : ℕ) → j < length bs → arc_at ls j ≡ arc_at bs j) → ls ≡ bs
+again_all [] [] e h = refl
+again_all [] (a ∷ bs) e h = absurd (omega arith)
+again_all (l ∷ ls) [] e h = absurd (omega arith)
+again_all (l ∷ ls) (a ∷ bs) e h = ap₂ ◌∷◌ (h 0 (omega arith)) (again_all ls bs (omega arith) (λ j k. h (suc j) (omega arith)))
+
+-- the ends of a step are those of the same arc
+tail_same : (ls ms : List Arc) → SameArcs ls ms → (s : Step) → tail_of ls s ≡ tail_of ms s
+tail_same ls ms e (Forward i) = (same_all ls ms e i).from
+tail_same ls ms e (Backward i) = (same_all ls ms e i).to
+
+head_same : (ls ms : List Arc) → SameArcs ls ms → (s : Step) → head_of ls s ≡ head_of ms s
+head_same ls ms e (Forward i) = (same_all ls ms e i).to
+head_same ls ms e (Backward i) = (same_all ls ms e i).from
+
+-- a way up leads on as far as its links are spared
+up_cut : (ls ms : List Arc) (ks js : List (Option Step)) → SameArcs ls ms → Cut ms ks js → (v : ℕ) (q : List Step) → Up ls ks v q → (p : List Step) × Up ms js v p
+up_cut ls ms ks js e c v [] up = ⊎_elim (λ n. ([], n)) (λ k. ([], k.0 ∙ up)) (c.each v)
+up_cut ls ms ks js e c v (s ∷ q) up = ⊎_elim (λ n. ([], n)) (λ k. on (k.0 ∙ up.0) (up_cut ls ms ks js e c (tail_of ls s) q up.1)) (c.each v)
+  where
+    on : link js v ≡ Some s → (p : List Step) × Up ms js (tail_of ls s) p → (p : List Step) × Up ms js v p
+    on is z = (s ∷ z.0, (is, subst (λ x. Up ms js x z.0) (tail_same ls ms e s) z.1))
+
+-- what is left of a forest after a shift
+pub forest_cut : {W : Type 0} (G : Kind W) (n : ℕ) (ls ms : List Arc) (xs : List W) (ks js : List (Option Step)) → Forest G.ops n ls xs ks → SameArcs ls ms → SoundArcs n ms → Cut ms ks js → Forest G.ops n ms xs js
+forest_cut G n ls ms xs ks js f e z c = record {
+  sound = z;
+  potentials_long = f.potentials_long;
+  links_long = let a = f.links_long in let b = c.long in omega arith;
+  rooted = λ v l. up_cut ls ms ks js e c v (f.rooted v l).0 (f.rooted v l).1;
+  joined = λ v s is. ⊎_elim (λ none. absurd (none_some (link js v) s none is)) (λ k. joined v s (sym k.0 ∙ is) k.1) (c.each v);
+}
+  where
+    joined : (v : ℕ) (s : Step) → link ks v ≡ Some s → ((t : Step) → link ks v ≡ Some t → 0 < residual_of ms t) → Joined G.ops n ms xs v s
+    joined v s is can =
+        let j = f.joined v s is in
+        record {
+          ends = sym (head_same ls ms e s) ∙ j.ends;
+          goes = (let a = j.goes.0 in let b = e.long in omega arith, can s is);
+          most = subst (Le G.ops (potential G.ops xs v)) (ap₂ G.ops.plus (ap (potential G.ops xs) (tail_same ls ms e s)) (ap (λ g. step_worth G.ops g s) (net_same G n ls ms e))) j.most;
+        }
+
+-- after k passes: what has become of the network s, with the sum of the rises
+pub record Running {W : Type 0} (o : Ops W) (s t : Net) (ls : List Arc) (xs : List W) (ks : List (Option Step)) (sum : W) (from k : ℕ) : Type 0 where
+  pub climb : Climb o s sum t
+  pub read : ls ≡ t.arcs
+  pub forest : Forest o t.nodes t.arcs xs ks
+  pub small : Small o (896 * k) xs
+  pub start : from ≤ length t.arcs
+
+module _ {W : Type 0} (G : Kind W) where
+  pub run_first : (s : Net) (z : Sound s) (ls : List Arc) → ls ≡ s.arcs → (xs : List W) → length xs ≡ s.nodes → ((v : ℕ) → potential G.ops xs v ≡ G.ops.none) → (ks : List (Option Step)) → length ks ≡ 272 → Unlinked ks → (sum : W) → sum ≡ G.ops.none → Running G.ops s s ls xs ks sum 0 0
+  run_first s z ls read xs long none ks wide unlinked sum is = record {
+    climb = subst (λ x. Climb G.ops s x s) (sym is) still;
+    read = read;
+    forest = bare G s.nodes s.arcs xs ks z.each long (let h = z.few_nodes in omega arith) none unlinked;
+    small = λ v. omega (arith, ap G.ops.size (none v), G.laws.size_none);
+    start = omega arith;
+  }
+
+  module _ {s t : Net} {ls : List Arc} {xs : List W} {ks : List (Option Step)} {sum : W} {from k : ℕ} (r : Running G.ops s t ls xs ks sum from k) where
+    pub run_small : k < 1000 → Small G.ops 999000 xs
+    run_small h v = let q = r.small v in omega arith
+
+    module _ {xs' : List W} {ks' : List (Option Step)} (w : Went G.ops t.nodes t.arcs xs xs' ks' 896) where
+      pub run_moved : {k' : ℕ} → k' ≡ k + 1 → Running G.ops s t ls xs' ks' sum 0 k'
+      run_moved next = record { climb = r.climb; read = r.read; forest = w.forest; small = λ v. let q = w.sizes (896 * k) r.small v in omega arith; start = omega arith }
+
+      pub run_taken : (u : Net) → Sound u → {ms : List Arc} {js : List (Option Step)} {rise sum' : W} (step : Step) → Closing G.ops t.nodes t.arcs ks' step → Improves G.ops t u rise → ms ≡ u.arcs → Cut ms ks' js → sum' ≡ G.ops.plus sum rise → {from' k' : ℕ} → from' ≡ arc step → k' ≡ k + 1 → Running G.ops s u ms xs' js sum' from' k'
+      run_taken u z {ms} {js} {rise} step closing i read cut sum-is from-is next = record {
+        climb = subst (λ x. Climb G.ops s x u) (sym sum-is) (more r.climb i);
+        read = read;
+        forest = subst (λ m. Forest G.ops m u.arcs xs' js) (sym i.nodes) (forest_cut G t.nodes t.arcs u.arcs xs' ks' js w.forest i.arcs (subst (λ m. SoundArcs m u.arcs) i.nodes z.each) (subst (λ l. Cut l ks' js) read cut));
+        small = λ v. let q = w.sizes (896 * k) r.small v in omega arith;
+        start = let a = closing.known in let b = i.arcs.long in omega arith;
+      }
+
+pub run_add : {W : Type 0} {o : Ops W} (laws : Laws o) {s t u : Net} {sum rise : W} → Climb o s sum t → Sound s → Sound t → Sound u → Improves o t u rise → o.size sum + o.size rise ≤ 4194304
+run_add laws {t = t} {u = u} {rise = rise} c p q z i = omega (arith, climb_small laws c p q, less_small laws t u rise q z i.rises)

@@ -1,0 +1,33 @@
+use Rattle.std.proofs.Common.{arith, ◌∙◌, subst₂}
+use Rattle.std.specs.declared.ops.ControlFlow.TheVariants.{Continue, Break}
+use Rattle.flow.specs.Groups.{kind}
+use Rattle.search.specs.Passes.{Passed}
+use Rattle.search.proofs.Quickly.{run_first, run_moved, run_taken, run_add}
+use Rattle.search.proofs.quick.climb_quickly.Goals as goal
+use Rattle.search.proofs.quick.climb_quickly.Goals.{in-Break, in-Continue+else-not-moved}
+
+pub loop-k-init : goal.loop-k-init
+loop-k-init g c = (
+  run_first (kind g.N.W.Worth.ops g.met.N.W.Worth.lawful) (g.N.Network.net c.args.net.now) (g.met.N.Network.sound c.args.net.now) c.read_arcs.new.table c.read_arcs.ensures c.blank.new.work (c.blank.auto.work ∙ c.requires) c.blank.ensures c.no_links-links.result c.no_links-links.ensures.long c.no_links-links.ensures.unlinked c.none-sum.result c.none-sum.ensures,
+  g.met.N.Improvable.itself c.args.net.now,
+)
+
+pub plus-sum-requires : goal.plus-sum-requires
+plus-sum-requires g c = run_add g.met.N.W.Worth.lawful c.loop-k.invariant.0.climb (g.met.N.Network.sound c.args.net.now) (g.met.N.Network.sound c.loop-k.net) (g.met.N.Network.sound c.take-rise.new.net) c.take-rise.ensures.rises
+
+pub loop-k-preserved : goal.loop-k-preserved
+loop-k-preserved g c =
+    let r = c.loop-k.invariant.0 in
+    let o = g.N.W.Worth.ops in
+    let K = kind o g.met.N.W.Worth.lawful in
+    elim c.match-pass.branch [
+      | in-Break w ↦
+          let p = subst₂ (λ n l. Passed o n l c.loop-k.potentials c.pass.new.potentials c.pass.new.links (Break w.in-Break.closing)) r.forest.potentials_long (c.as_slice.ensures ∙ r.read) w.in-Break.ensures in
+          rw (w.net-is, w.table-is, w.links-is, w.sum-is, w.from-is) (
+            run_taken K r p.0 (g.N.Network.net w.take-rise.new.net) (g.met.N.Network.sound w.take-rise.new.net) w.in-Break.closing p.1 w.take-rise.ensures.rises w.take-rise.ensures.read w.take-rise.ensures.cut w.plus-sum.ensures w.arc_of-from.ensures (omega arith),
+            g.met.N.Improvable.onward _ _ _ c.loop-k.invariant.1 w.take-rise.ensures.kept,
+          )
+      | in-Continue+else-not-moved w ↦
+          let p = subst₂ (λ n l. Passed o n l c.loop-k.potentials c.pass.new.potentials c.pass.new.links (Continue w.in-Continue.moved)) r.forest.potentials_long (c.as_slice.ensures ∙ r.read) w.in-Continue.ensures in
+          rw (w.net-is, w.table-is, w.links-is, w.sum-is, w.from-is) (run_moved K r p (omega arith), c.loop-k.invariant.1)
+    ]

@@ -1,0 +1,165 @@
+// Cycle after cycle, with the potentials and the links kept from each to the next. Most cycles of a clearing are found so, since
+// one shift leaves most potentials as they were. That nothing is left to find is for `improve` to say.
+ghost use Rattle.std.specs.Prelude.{◌≡◌, ◌≤◌, length};
+ghost use Rattle.flow.specs.Steps.{arc};
+ghost use Rattle.search.specs.Outcomes.{Climb, Improves};
+ghost use Rattle.search.specs.Sweeps.{Small, Forest, Closing};
+ghost use Rattle.search.specs.Passes.{Cut, Passed};
+ghost use Rattle.search.specs.Searches.{net_of};
+
+use super::cycle::Cycle;
+use super::improve::read_arcs;
+use super::links::Links;
+use super::residual::Residual;
+use super::shift::shift;
+use super::sweep::{Search, blank, no_links};
+use flow::arc::Arc;
+use flow::step::Step;
+use network::improvable::Improvable;
+use network::readable::Network;
+use std::ops::ControlFlow;
+use tables::table::Table;
+use worth::kind::Worth;
+
+// The arc of a step.
+fn arc_of(step: Step) -> usize
+    ensures { result ≡ arc step }
+{
+    match step {
+        Step::Forward(i) | Step::Backward(i) => i,
+    }
+}
+
+// Reads the arcs again, into a table that has as many.
+fn read_again<N: Network>(net: &N, table: &mut Table<Arc, 448>)
+    requires { length table.old ≡ length (N.Network.net net.now).arcs }
+    ensures { table.new ≡ (N.Network.net net.now).arcs }
+{
+    for i in 0..table.len() {
+        if let Ok(arc) = net.arc(i as u32) {
+            // there are as many places as arcs
+            let _ = table.set(i, arc);
+        }
+    }
+}
+
+// Takes away the links that can take nothing any more.
+fn cut(net: Residual, links: &mut [Option<Step>])
+    ensures { Cut net.entry.arcs.now links.old links.new }
+{
+    for v in 0..links.len() {
+        if let Some(step) = links[v] {
+            if net.room(step) == 0 {
+                links[v] = None;
+            }
+        }
+    }
+}
+
+// Relaxes the steps along each arc from number `from` on: whether some potential rose, or else a step that closes a cycle
+// worth more than none.
+fn pass<W: Worth>(
+    net: Residual,
+    potentials: &mut [W],
+    links: &mut [Option<Step>],
+    from: usize,
+) -> ControlFlow<Step, bool>
+    requires start { from ≤ length net.arcs.now }
+    requires forest { Forest W.ops net.nodes net.arcs.now potentials.old links.old }
+    requires small { Small W.ops 999000 potentials.old }
+    ensures { Passed W.ops net.entry.nodes net.entry.arcs.now potentials.old potentials.new links.new result }
+{
+    Search::resume(net, potentials, links).pass(from)
+}
+
+// The cycle that a step closes.
+fn closed_by<'a>(net: Residual<'a>, last: &'a [Option<Step>], closing: Step) -> Cycle<'a>
+    requires { net.nodes ≤ length last.now }
+    ensures net { result.links.net ≡ net.entry }
+    ensures last { result.links.last.now ≡ last.now }
+    ensures closing { result.closing ≡ closing }
+{
+    let links = Links { net, last };
+    Cycle { links, closing }
+}
+
+// Shifts along the cycle that a step closes.
+fn shift_closed<'a, N: Improvable>(
+    net: &mut N,
+    read: Residual<'a>,
+    links: &'a [Option<Step>],
+    closing: Step,
+) -> N::W
+    requires read { net_of read ≡ N.Network.net net.old }
+    requires long { read.nodes ≤ length links.now }
+    requires closes { Closing N.W.Worth.ops read.nodes read.arcs.now links.now closing }
+    ensures rises { Improves N.W.Worth.ops (N.Network.net net.old) (N.Network.net net.new) result }
+    ensures kept { N.Improvable.alike net.old net.new }
+{
+    let cycle = closed_by(read, links, closing);
+    shift(net, cycle, cycle.measure())
+}
+
+// Shifts along the cycle that a step closes, reads the arcs again, and cuts the links.
+fn take<N: Improvable>(
+    net: &mut N,
+    table: &mut Table<Arc, 448>,
+    links: &mut [Option<Step>],
+    closing: Step,
+) -> N::W
+    requires read { table.old ≡ (N.Network.net net.old).arcs }
+    requires long { (N.Network.net net.old).nodes ≤ length links.old }
+    requires closes { Closing N.W.Worth.ops (N.Network.net net.old).nodes table.old links.old closing }
+    ensures rises { Improves N.W.Worth.ops (N.Network.net net.old) (N.Network.net net.new) result }
+    ensures kept { N.Improvable.alike net.old net.new }
+    ensures read { table.new ≡ (N.Network.net net.new).arcs }
+    ensures cut { Cut table.new links.old links.new }
+{
+    let (nodes, _) = net.counts();
+    let residual = Residual {
+        nodes: nodes as usize,
+        arcs: table.as_slice(),
+    };
+    let rise = shift_closed(net, residual, links, closing);
+    read_again(net, table);
+    let after = Residual {
+        nodes: nodes as usize,
+        arcs: table.as_slice(),
+    };
+    cut(after, links);
+    rise
+}
+
+// Improves by cycles found in at most 1,000 passes, and answers the sum of the rises. A table of potentials is lent to it.
+pub(crate) fn climb_quickly<N: Improvable>(net: &mut N, potentials: &mut [N::W]) -> N::W
+    requires { length potentials.old ≡ (N.Network.net net.old).nodes }
+    ensures climb { Climb N.W.Worth.ops (N.Network.net net.old) result (N.Network.net net.new) }
+    ensures kept { N.Improvable.alike net.old net.new }
+{
+    let mut table = Table::default();
+    read_arcs(net, &mut table);
+    let mut links = no_links();
+    blank(potentials);
+    let mut sum = N::W::none();
+    let mut from = 0;
+    for _k in 0..1000usize {
+        let residual = Residual {
+            nodes: potentials.len(),
+            arcs: table.as_slice(),
+        };
+        match pass(residual, potentials, &mut links, from) {
+            ControlFlow::Break(closing) => {
+                let rise = take(net, &mut table, &mut links, closing);
+                sum = sum.plus(rise);
+                from = arc_of(closing);
+            }
+            ControlFlow::Continue(moved) => {
+                if !moved && from == 0 {
+                    return sum;
+                }
+                from = 0;
+            }
+        }
+    }
+    sum
+}

@@ -30,7 +30,7 @@ fn arc_of(step: Step) -> usize
     }
 }
 
-// Reads the arcs again, into a table that has as many.
+// Reads the arcs again, into a table that has as many, place by place: a table made anew would be zeroed at each shift, all 18 KB of it.
 fn read_again<N: Network>(net: &N, table: &mut Table<Arc, 448>)
     requires { length table.old ≡ length (N.Network.net net.now).arcs }
     ensures { table.new ≡ (N.Network.net net.now).arcs }
@@ -43,7 +43,7 @@ fn read_again<N: Network>(net: &N, table: &mut Table<Arc, 448>)
     }
 }
 
-// Takes away the links that can take nothing any more.
+// Takes away the links that can take nothing any more, by number: over `iter_mut` the proof of which are left did not close.
 fn cut(net: Residual, links: &mut [Option<Step>])
     ensures { Cut net.entry.arcs.now links.old links.new }
 {

@@ -88,7 +88,8 @@ impl<W: Worth> HaulTable<W> {
 
     // The worth of what flows.
     pub fn worth(&self) -> W
-        ensures { result ≡ value W.Worth.ops (hauled self.now) }
+        ensures value { result ≡ value W.Worth.ops (hauled self.now) }
+        ensures law { Law W.Worth.ops }
     {
         worth(self)
     }

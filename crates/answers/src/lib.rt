@@ -2,6 +2,6 @@
 #![tactic(auto)]
 
 pub mod answer;
-pub mod input;
+mod input;
 pub mod line;
 pub mod run;

@@ -1,5 +1,6 @@
 -- How numbers are spelt: in decimal digits, with no leading zero, and with a minus only below 0.
-use Rattle.std.specs.Prelude.{◌≡◌, ℕ, zero, suc, ◌+◌, ◌/◌, ◌%◌, ◌<◌, ◌≤◌, List, [], ◌∷◌, ◌++◌, length, ℤ, pos, negsuc, Result, MatchResult, unsigned_abs}
+use Rattle.std.specs.Prelude.{◌≡◌, ℕ, zero, suc, ◌+◌, ◌/◌, ◌%◌, ◌<◌, ◌≤◌, List, [], ◌∷◌, ◌++◌, length, ℤ, pos, negsuc, Result, MatchResult, unsigned_abs, count_by}
+use Rattle.std.specs.Char.{is_ascii_digit}
 use Rattle.tables.specs.declared.refusal.Refusal.{Refusal}
 use Rattle.tables.specs.declared.refusal.Refusal.TheVariants.{Layout}
 use Rattle.text.specs.Parts.{Free}
@@ -32,10 +33,11 @@ unsigned = record { spelling = spelt; digit_count = λ n. length (spelt n) }
 abbrev pub signed : Notation ℤ
 signed = record { spelling = level_spelt; digit_count = λ z. length (spelt (unsigned_abs z)) }
 
--- no two numbers are spelt alike, and no byte is below the minus, as space and byte 10 are
+-- no two numbers are spelt alike, no byte is below the minus, as space and byte 10 are, and the digits counted are those of the spelling
 pub record Legible {X : Type 0} (notation : Notation X) : Type 0 where
   pub once : (x y : X) → notation.spelling x ≡ notation.spelling y → x ≡ y
   pub high : (x : X) (b : ℕ) → b < 45 → Free b (notation.spelling x)
+  pub counted : (x : X) → notation.digit_count x ≡ count_by is_ascii_digit (notation.spelling x)
 
 -- the bytes are the spelling of x, which has at most so many digits
 abbrev pub SpellsWithin : {X : Type 0} → ℕ → Notation X → List ℕ → X → Type 0

@@ -1,13 +1,15 @@
 -- The spelling of numbers: one for each number, and which bytes are one.
-use Rattle.std.specs.Prelude.{◌≡◌, ℕ, zero, suc, ◌+◌, ◌/◌, ◌%◌, ◌^◌, ◌<◌, ◌≤◌, List, [], ◌∷◌, ◌++◌, length, ℤ, pos, negsuc, neg_ℤ, decimal, ◌≢◌, slice_index, slice_index_or, refl}
+use Rattle.std.specs.Prelude.{◌≡◌, ℕ, zero, suc, ◌+◌, ◌/◌, ◌%◌, ◌^◌, ◌<◌, ◌≤◌, List, [], ◌∷◌, ◌++◌, length, ℤ, pos, negsuc, neg_ℤ, decimal, ◌≢◌, slice_index, slice_index_or, count_by, cond, ◌&&◌, refl}
 use Rattle.std.proofs.Common.{sym, ap, subst, ◌∙◌, arith, w64, SFits}
 use Rattle.std.specs.Str.Parse.{digits_value, AllDigits}
 use Rattle.std.specs.Fmt.{signed_decimal}
 use Rattle.std.specs.Int.{IsInRange}
-use Rattle.std.specs.Char.{digit_value as digitValue}
+use Rattle.std.specs.Char.{digit_value as digitValue, is_ascii_digit}
 use Rattle.std.proofs.lemmas.Fmt.{decimal_digit, decimal_step, decimal-digits_value, length-decimal-le}
 use Rattle.std.proofs.lemmas.Int.Digits.{digits_value_push, digits_push}
 use Rattle.std.proofs.lemmas.List.{get_or_append_left, length_push}
+use Rattle.std.proofs.lemmas.Bool.{le-leb}
+use Rattle.std.proofs.lemmas.List.Sums.{sum_by_push}
 use Rattle.std.proofs.lemmas.Str.Parse.{IsNumeralModel, numerals_by_value, tells_digits, digit_at, digits_value_short, not_in_digits}
 use Rattle.std.proofs.lemmas.Int.{ints}
 use Rattle.std.proofs.lemmas.Str.{digit_value_digit}
@@ -132,8 +134,22 @@ not_in_level b (pos n) out minus k lt e = not_in_spelt b n out k lt e
 not_in_level b (negsuc n) out minus zero lt e = minus (sym e)
 not_in_level b (negsuc n) out minus (suc k) lt e = not_in_spelt b (suc n) out k (omega arith) e
 
+one_counted : (d : ℕ) → d < 10 → count_by is_ascii_digit ((48 + d) ∷ []) ≡ 1
+one_counted d lt = λ i. 0 + cond (le-leb 48 (48 + d) (omega arith) i && le-leb (48 + d) 57 (omega arith) i) 1 0
+
+-- all bytes of a number are digits
+counted_spelt : (n : ℕ) → length (spelt n) ≡ count_by is_ascii_digit (spelt n)
+counted_spelt = by_digits (λ _ ds. length ds ≡ count_by is_ascii_digit ds)
+    (λ n lt. sym (one_counted n lt))
+    (λ n ds le h. omega (arith, length_push ds (48 + n % 10), sum_by_push (λ c. cond (is_ascii_digit c) 1 0) ds (48 + n % 10), one_counted (n % 10) (omega arith)))
+
+-- the minus is none
+counted_level : (z : ℤ) → signed.digit_count z ≡ count_by is_ascii_digit (level_spelt z)
+counted_level (pos n) = counted_spelt n
+counted_level (negsuc n) = counted_spelt (suc n)
+
 pub legible_unsigned : Legible unsigned
-legible_unsigned = record { once = same_from_spelt; high = λ n b low. not_in_spelt b n (λ i. omega arith) }
+legible_unsigned = record { once = same_from_spelt; high = λ n b low. not_in_spelt b n (λ i. omega arith); counted = counted_spelt }
 
 pub legible_signed : Legible signed
-legible_signed = record { once = same_from_level; high = λ z b low. not_in_level b z (λ i. omega arith) (λ e. omega arith) }
+legible_signed = record { once = same_from_level; high = λ z b low. not_in_level b z (λ i. omega arith) (λ e. omega arith); counted = counted_level }

@@ -27,6 +27,7 @@ pub record Same {W : Type 0} (s t : Search W) : Type 0 where
   pub net : t.net ≡ s.net
   pub held : t.potentials.ghost_name ≡ s.potentials.ghost_name
   pub linked : t.links.ghost_name ≡ s.links.ghost_name
+  pub row : t.ups.ghost_name ≡ s.ups.ghost_name
 
 module _ {W : Type 0} (o : Ops W) where
   -- nothing is raised yet

@@ -1,7 +1,7 @@
 // The search for a cycle worth more than none: potentials are raised in place, step by step, until a step
 // closes a cycle or a whole sweep raises nothing; then the potentials fit.
-ghost use Rattle.std.specs.Prelude.{◌≡◌, ◌≤◌, ℕ, [], ◌∷◌, length, slice_index_or};
-ghost use Rattle.search.specs.Links.{Unlinked};
+ghost use Rattle.std.specs.Prelude.{◌≡◌, ◌<◌, ◌≤◌, ℕ, [], ◌∷◌, length, Some, slice_index_or, slice_set};
+ghost use Rattle.search.specs.Links.{Unlinked, Paired, Rooted, Told};
 
 use super::cycle::Cycle;
 use super::links::Links;
@@ -11,14 +11,16 @@ use std::ops::ControlFlow;
 use worth::kind::Worth;
 
 // A potential and a link for each node of a network: two rows, since the potentials lie in the work table that the caller lends.
-// Both are lent, so that a search can go on where another ended.
+// Beside each link lies the node that it starts from, since the ways up are gone often. All are lent, so that a search can go on where another ended.
 // `Same` is what each method that writes keeps; `Growing` is no invariant, since its bound differs from call to call.
 #[derive(Drop)]
 pub(crate) struct Search<'a, W> {
     net: Residual<'a>,
     potentials: &'a mut [W],
     links: &'a mut [Option<Step>],
+    ups: &'a mut [usize],
     ghost long: { net.nodes ≤ length links.now },
+    ghost paired: { Paired net.arcs.now links.now ups.now },
 }
 
 impl<'a, W: Worth> Search<'a, W> {
@@ -29,13 +31,16 @@ impl<'a, W: Worth> Search<'a, W> {
         net: Residual<'a>,
         potentials: &'a mut [W],
         links: &'a mut [Option<Step>],
+        ups: &'a mut [usize],
     ) -> Search<'a, W>
         requires long { length potentials.old ≡ net.nodes }
         requires links_long { net.nodes ≤ length links.old }
         requires unlinked { Unlinked links.old }
+        requires paired { Paired net.arcs.now links.old ups.old }
         ensures net { result.net ≡ net.entry }
         ensures held { result.potentials.ghost_name ≡ potentials.entry.ghost_name }
         ensures linked { result.links.ghost_name ≡ links.entry.ghost_name }
+        ensures row { result.ups.ghost_name ≡ ups.entry.ghost_name }
         ensures begun { Begun W.ops result }
     {
         blank(potentials);
@@ -43,6 +48,7 @@ impl<'a, W: Worth> Search<'a, W> {
             net,
             potentials,
             links,
+            ups,
         }
     }
 
@@ -51,11 +57,14 @@ impl<'a, W: Worth> Search<'a, W> {
         net: Residual<'a>,
         potentials: &'a mut [W],
         links: &'a mut [Option<Step>],
+        ups: &'a mut [usize],
     ) -> Search<'a, W>
-        requires { net.nodes ≤ length links.old }
+        requires long { net.nodes ≤ length links.old }
+        requires paired { Paired net.arcs.now links.old ups.old }
         ensures net { result.net ≡ net.entry }
         ensures held { result.potentials.ghost_name ≡ potentials.entry.ghost_name }
         ensures linked { result.links.ghost_name ≡ links.entry.ghost_name }
+        ensures row { result.ups.ghost_name ≡ ups.entry.ghost_name }
         ensures potentials { result.potentials.now ≡ potentials.old }
         ensures links { result.links.now ≡ links.old }
     {
@@ -63,6 +72,7 @@ impl<'a, W: Worth> Search<'a, W> {
             net,
             potentials,
             links,
+            ups,
         }
     }
 
@@ -104,6 +114,26 @@ impl<'a, W: Worth> Search<'a, W> {
         there.is_less(offered).then_some(offered)
     }
 
+    // Whether the way from a node up along the links passes `goal`.
+    fn passes(&self, from: usize, goal: usize) -> bool
+        requires rooted { Rooted self.now.net.arcs.now self.now.links.now from }
+        requires inside { goal < length self.now.links.now }
+        ensures { Told self.now.net.arcs.now self.now.links.now from goal result }
+    {
+        let mut node = from;
+        // a way up is shorter than the rows
+        for _k in 0..self.ups.len() {
+            if node == goal {
+                return true;
+            }
+            let Some(&up) = self.ups.get(node) else {
+                return false;
+            };
+            node = up;
+        }
+        false
+    }
+
     // Raises the potential at a step's head to what the step offers, if that is more: whether it rose,
     // or else the step, where it closes a cycle worth more than none.
     fn relax(&mut self, step: Step) -> ControlFlow<Step, bool>
@@ -116,11 +146,11 @@ impl<'a, W: Worth> Search<'a, W> {
         };
         let from = self.net.tail(step);
         let to = self.net.head(step);
-        if self.links().passes(from, to) {
+        if self.passes(from, to) {
             return ControlFlow::Break(step);
         }
         self.potentials[to] = offered;
-        self.links[to] = Some(step);
+        set_link(self.links, self.ups, to, step, from);
         ControlFlow::Continue(true)
     }
 
@@ -177,6 +207,17 @@ impl<'a, W: Worth> Search<'a, W> {
     }
 }
 
+// Sets the link of a node and the node that it starts from. Both are set in one call, since each search has them agree.
+fn set_link(links: &mut [Option<Step>], ups: &mut [usize], node: usize, step: Step, from: usize)
+    requires link { node < length links.old }
+    requires up { node < length ups.old }
+    ensures links { links.new ≡ slice_set links.old node (Some step) }
+    ensures ups { ups.new ≡ slice_set ups.old node from }
+{
+    links[node] = Some(step);
+    ups[node] = from;
+}
+
 // The two steps along an arc.
 fn both_ways(i: usize) -> [Step; 2]
     ensures { result ≡ Step.Forward i ∷ Step.Backward i ∷ [] }
@@ -197,4 +238,12 @@ pub(crate) fn no_links() -> [Option<Step>; 272]
     ensures unlinked { Unlinked result }
 {
     [None; 272]
+}
+
+// For each node, that it has no link.
+pub(crate) fn no_ups() -> [usize; 272]
+    ensures long { length result ≡ 272 }
+    ensures none { (v : ℕ) → v < 272 → slice_index_or result v 0 ≡ 272 }
+{
+    [272; 272]
 }

@@ -3,7 +3,7 @@ use Rattle.std.proofs.Common.{get_or, ◌≡◌, ℕ, suc, [], ◌∷◌, ◌+�
 use Rattle.std.proofs.lemmas.Bool.{cases_eq}
 use Rattle.std.proofs.lemmas.List.{get_or-set_same, get_or-set_other, length-set}
 use Rattle.std.specs.declared.ops.ControlFlow.TheVariants.{Continue, Break}
-use Rattle.flow.specs.Groups.{Kind, Le}
+use Rattle.flow.specs.Groups.{Kind, Lt, Le}
 use Rattle.flow.specs.Arcs.{blank, arc_at, net, SameArcs}
 use Rattle.flow.specs.Steps.{arc, step_worth}
 use Rattle.flow.specs.declared.arc.Arc.{Arc}
@@ -15,7 +15,9 @@ use Rattle.network.specs.Networks.{Net, Sound}
 use Rattle.worth.specs.Kinds.{Ops, Laws}
 use Rattle.search.specs.Links.{SoundArcs, tail_of, head_of, residual_of, link, Unlinked, Up, Paired}
 use Rattle.search.specs.Sweeps.{Small, offer, Joined, Forest, Closing, Relaxed}
-use Rattle.search.specs.Searches.{Same, Growing}
+use Rattle.search.specs.Searches.{Same, Growing, RisesAlong}
+use Rattle.flow.proofs.Group.{unit_right}
+use Rattle.std.proofs.lemmas.List.{get_or_default}
 use Rattle.search.specs.Passes.{Spared, Cut, Went, Passed}
 use Rattle.search.specs.Outcomes.{Climb, still, more, Improves}
 use Rattle.search.specs.declared.sweep.Search.{Search}
@@ -72,8 +74,50 @@ module _ {W : Type 0} (G : Kind W) {s t : Search W} {k : ℕ} (w : WentTo G.ops 
     pub goes_to : (x : Step) → k ≤ 896 → Relaxed G.ops t.net.nodes t.net.arcs.now t.potentials.now t.links.now u.potentials.now u.links.now step (Break x) → Passed G.ops s.net.nodes s.net.arcs.now s.potentials.now u.potentials.now u.links.now (Break x)
     goes_to x few o = went_closed G s.net.nodes s.net.arcs.now s.potentials.now t.potentials.now u.potentials.now t.links.now u.links.now k step x few w.went (subst (λ n. Relaxed G.ops n.nodes n.arcs.now t.potentials.now t.links.now u.potentials.now u.links.now step (Break x)) w.same.net o)
 
+  pub waits : {k' : ℕ} → k' ≡ k + 1 → WentTo G.ops s t k'
+  waits next = record { same = w.same; went = record { forest = w.went.forest; sizes = λ b h v. let q = w.went.sizes b h v in omega arith } }
+
   pub gone : k ≤ 896 → (moved : Bool) → Passed G.ops s.net.nodes s.net.arcs.now s.potentials.now t.potentials.now t.links.now (Continue moved)
   gone few moved = record { forest = w.went.forest; sizes = λ b h v. let q = w.went.sizes b h v in omega arith }
+
+-- what the sum along an arc tells of the step backward
+module _ {W : Type 0} (G : Kind W) {s : Search W} {b : ℕ} (grows : Growing G.ops b s) (i : ℕ) (known : i < length s.net.arcs.now) where
+  abbrev a : Arc
+  a = arc_at s.net.arcs.now i
+
+  abbrev at : ℕ → W
+  at v = potential G.ops s.potentials.now v
+
+  from_in : a.from < s.net.nodes
+  from_in = (grows.forest.sound i known).from_in
+
+  to_in : a.to < s.net.nodes
+  to_in = (grows.forest.sound i known).to_in
+
+  reads : {v k : ℕ} → v ≡ k → k < s.net.nodes → (d : W) → get_or s.potentials.now v d ≡ at k
+  reads {v} {k} is l d = get_or_default s.potentials.now v d G.ops.none (omega (arith, grows.forest.potentials_long)) ∙ ap at is
+
+  module _ {v w : ℕ} (v-is : v ≡ a.from) (w-is : w ≡ a.to) (d e : W) {u : W} (unit : u ≡ G.ops.unit a.price a.weeks) {x : W} (x-is : x ≡ G.ops.plus (get_or s.potentials.now v d) u) where
+    sum_is : x ≡ G.ops.plus (at a.from) (G.ops.unit a.price a.weeks)
+    sum_is = x-is ∙ ap₂ G.ops.plus (reads v-is from_in d) unit
+
+    pub backward_rises : 0 < a.flow → G.ops.less x (get_or s.potentials.now w e) ≡ true → {y : W} → y ≡ G.ops.plus (get_or s.potentials.now w e) (G.ops.neg u) → RisesAlong G.ops s i (Some (Backward i, y))
+    backward_rises room less {y} y-is = (refl, (room, offered, subst₂ (Lt G.ops) back (sym offered) (shifted ∙ lower)))
+      where
+        c : W
+        c = G.ops.unit a.price a.weeks
+
+        offered : y ≡ G.ops.plus (at a.to) (G.ops.neg c)
+        offered = y-is ∙ ap₂ G.ops.plus (reads w-is to_in e) (ap G.ops.neg unit)
+
+        lower : G.ops.less (G.ops.plus (at a.from) c) (at a.to) ≡ true
+        lower = subst₂ (Lt G.ops) sum_is (reads w-is to_in e) less
+
+        shifted : G.ops.less (G.ops.plus (G.ops.plus (at a.from) c) (G.ops.neg c)) (G.ops.plus (at a.to) (G.ops.neg c)) ≡ G.ops.less (G.ops.plus (at a.from) c) (at a.to)
+        shifted = G.laws.shifted (G.ops.plus (at a.from) c) (at a.to) (G.ops.neg c)
+
+        back : G.ops.plus (G.ops.plus (at a.from) c) (G.ops.neg c) ≡ at a.from
+        back = G.laws.assoc (at a.from) c (G.ops.neg c) ∙ ap (G.ops.plus (at a.from)) (G.laws.inverse c) ∙ unit_right G (at a.from)
 
 -- the arcs below i are read again
 pub record Again (bs ls : List Arc) (i : ℕ) : Type 0 where

@@ -75,7 +75,7 @@ module _ {W : Type 0} (G : Kind W) {s : Search W} {b : ℕ} (grows : Growing G.o
     rooted = forest_rooted G s.net.nodes ls s.potentials.now s.links.now grows.forest (tail_of ls t) from_node
 
     -- what is read at a node, whatever default it is read with
-    read : (v k : ℕ) (d : W) → v ≡ k → k < s.net.nodes → get_or s.potentials.now v d ≡ potential G.ops s.potentials.now k
+    pub read : (v k : ℕ) (d : W) → v ≡ k → k < s.net.nodes → get_or s.potentials.now v d ≡ potential G.ops s.potentials.now k
     read v k d is l = get_or_default s.potentials.now v d G.ops.none (omega (arith, grows.forest.potentials_long)) ∙ ap (potential G.ops s.potentials.now) is
 
     -- what is read at its tail, and what it is worth

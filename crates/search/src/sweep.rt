@@ -24,7 +24,7 @@ pub(crate) struct Search<'a, W> {
 }
 
 impl<'a, W: Worth> Search<'a, W> {
-    ghost use Rattle.search.specs.Searches.{Same, Begun, Growing, Grounded, Offers, Relaxes, SweepsTo, PassesTo, Finds, ClosedBy, Closes};
+    ghost use Rattle.search.specs.Searches.{Same, Begun, Growing, Grounded, Offers, RisesAlong, Relaxes, SweepsTo, PassesTo, Finds, ClosedBy, Closes};
 
     // Nothing is raised yet.
     pub(crate) fn new(
@@ -134,16 +134,35 @@ impl<'a, W: Worth> Search<'a, W> {
         false
     }
 
-    // Raises the potential at a step's head to what the step offers, if that is more: whether it rose,
-    // or else the step, where it closes a cycle worth more than none.
-    fn relax(&mut self, step: Step) -> ControlFlow<Step, bool>
-        requires { Growing W.ops 1000000 self.old }
+    // A step along arc i that can be taken and offers more to its head than there is, and what it offers, if either does.
+    // One sum tells of both.
+    fn rising(&self, i: usize) -> Option<(Step, W)>
+        requires known { i < length self.now.net.arcs.now }
+        requires growing { Growing W.ops 1000000 self.now }
+        ensures { RisesAlong W.ops self.now i result }
+    {
+        let arc = self.net.arc(i);
+        let here = self.potentials[arc.from as usize];
+        let there = self.potentials[arc.to as usize];
+        let unit = self.net.gain::<W>(Step::Forward(i));
+        let up = here.plus(unit);
+        if arc.flow < arc.capacity && there.is_less(up) {
+            return Some((Step::Forward(i), up));
+        }
+        if 0 < arc.flow && up.is_less(there) {
+            return Some((Step::Backward(i), there.minus(unit)));
+        }
+        None
+    }
+
+    // Raises the potential at a step's head to what the step offers: it rose,
+    // or else the step closes a cycle worth more than none.
+    fn raise(&mut self, step: Step, offered: W) -> ControlFlow<Step, bool>
+        requires growing { Growing W.ops 1000000 self.old }
+        requires offers { Offers W.ops self.old step (Some offered) }
         ensures same { Same self.old self.new }
         ensures relaxed { Relaxes W.ops self.old self.new step result }
     {
-        let Some(offered) = self.offer(step) else {
-            return ControlFlow::Continue(false);
-        };
         let from = self.net.tail(step);
         let to = self.net.head(step);
         if self.passes(from, to) {
@@ -152,6 +171,19 @@ impl<'a, W: Worth> Search<'a, W> {
         self.potentials[to] = offered;
         set_link(self.links, self.ups, to, step, from);
         ControlFlow::Continue(true)
+    }
+
+    // Raises the potential at a step's head to what the step offers, if that is more: whether it rose,
+    // or else the step, where it closes a cycle worth more than none.
+    fn relax(&mut self, step: Step) -> ControlFlow<Step, bool>
+        requires { Growing W.ops 1000000 self.old }
+        ensures same { Same self.old self.new }
+        ensures relaxed { Relaxes W.ops self.old self.new step result }
+    {
+        match self.offer(step) {
+            None => ControlFlow::Continue(false),
+            Some(offered) => self.raise(step, offered),
+        }
     }
 
     // Relaxes each step once, forward and backward along each arc in turn: whether some potential rose,
@@ -172,7 +204,7 @@ impl<'a, W: Worth> Search<'a, W> {
         ControlFlow::Continue(moved)
     }
 
-    // Relaxes the steps along each arc from number `from` on: whether some potential rose, or else a step that closes a cycle
+    // Relaxes a step along each arc from number `from` on: whether some potential rose, or else a step that closes a cycle
     // worth more than none.
     pub(crate) fn pass(&mut self, from: usize) -> ControlFlow<Step, bool>
         requires start { from ≤ length self.old.net.arcs.now }
@@ -182,8 +214,8 @@ impl<'a, W: Worth> Search<'a, W> {
     {
         let mut moved = false;
         for i in from..self.net.arcs.len() {
-            for step in both_ways(i) {
-                moved |= self.relax(step)?;
+            if let Some((step, offered)) = self.rising(i) {
+                moved |= self.raise(step, offered)?;
             }
         }
         ControlFlow::Continue(moved)

@@ -1,9 +1,9 @@
 -- Passes, cuts, and cycles taken one after another.
-use Rattle.std.proofs.Common.{◌≡◌, ℕ, suc, [], ◌∷◌, ◌+◌, ◌*◌, ◌<◌, ◌≤◌, Bool, true, false, List, length, set, Some, Option, sym, refl, ap, ◌∙◌, subst, subst₂, ap₂, ⊎_elim, arith}
+use Rattle.std.proofs.Common.{get_or, ◌≡◌, ℕ, suc, [], ◌∷◌, ◌+◌, ◌*◌, ◌<◌, ◌≤◌, Bool, true, false, List, length, set, Some, Option, sym, refl, ap, ◌∙◌, subst, subst₂, ap₂, ⊎_elim, arith}
 use Rattle.std.proofs.lemmas.Bool.{cases_eq}
 use Rattle.std.proofs.lemmas.List.{get_or-set_same, get_or-set_other, length-set}
 use Rattle.std.specs.declared.ops.ControlFlow.TheVariants.{Continue, Break}
-use Rattle.flow.specs.Groups.{Kind, Le}
+use Rattle.flow.specs.Groups.{Kind, Lt, Le}
 use Rattle.flow.specs.Arcs.{blank, arc_at, net, SameArcs}
 use Rattle.flow.specs.Steps.{arc, step_worth}
 use Rattle.flow.specs.declared.arc.Arc.{Arc}
@@ -13,15 +13,17 @@ use Rattle.flow.proofs.Rows.{net_same, same_all}
 use Rattle.network.specs.Potentials.{potential}
 use Rattle.network.specs.Networks.{Net, Sound}
 use Rattle.worth.specs.Kinds.{Ops, Laws}
-use Rattle.search.specs.Links.{SoundArcs, tail_of, head_of, residual_of, link, Unlinked, Up}
+use Rattle.search.specs.Links.{SoundArcs, tail_of, head_of, residual_of, link, Unlinked, Up, Paired}
 use Rattle.search.specs.Sweeps.{Small, offer, Joined, Forest, Closing, Relaxed}
-use Rattle.search.specs.Searches.{Same, Growing}
+use Rattle.search.specs.Searches.{Same, Growing, RisesAlong}
+use Rattle.flow.proofs.Group.{unit_right}
+use Rattle.std.proofs.lemmas.List.{get_or_default}
 use Rattle.search.specs.Passes.{Spared, Cut, Went, Passed}
 use Rattle.search.specs.Outcomes.{Climb, still, more, Improves}
 use Rattle.search.specs.declared.sweep.Search.{Search}
 use Rattle.search.proofs.Forests.{head_in, step_small, bare}
 use Rattle.search.proofs.Raising.{same_on}
-use Rattle.search.proofs.Ways.{none_some}
+use Rattle.search.proofs.Ways.{none_some, bare_paired}
 use Rattle.search.proofs.Clearing.{less_small, climb_small}
 
 -- the links below v are cut
@@ -72,8 +74,50 @@ module _ {W : Type 0} (G : Kind W) {s t : Search W} {k : ℕ} (w : WentTo G.ops 
     pub goes_to : (x : Step) → k ≤ 896 → Relaxed G.ops t.net.nodes t.net.arcs.now t.potentials.now t.links.now u.potentials.now u.links.now step (Break x) → Passed G.ops s.net.nodes s.net.arcs.now s.potentials.now u.potentials.now u.links.now (Break x)
     goes_to x few o = went_closed G s.net.nodes s.net.arcs.now s.potentials.now t.potentials.now u.potentials.now t.links.now u.links.now k step x few w.went (subst (λ n. Relaxed G.ops n.nodes n.arcs.now t.potentials.now t.links.now u.potentials.now u.links.now step (Break x)) w.same.net o)
 
+  pub waits : {k' : ℕ} → k' ≡ k + 1 → WentTo G.ops s t k'
+  waits next = record { same = w.same; went = record { forest = w.went.forest; sizes = λ b h v. let q = w.went.sizes b h v in omega arith } }
+
   pub gone : k ≤ 896 → (moved : Bool) → Passed G.ops s.net.nodes s.net.arcs.now s.potentials.now t.potentials.now t.links.now (Continue moved)
   gone few moved = record { forest = w.went.forest; sizes = λ b h v. let q = w.went.sizes b h v in omega arith }
+
+-- what the sum along an arc tells of the step backward
+module _ {W : Type 0} (G : Kind W) {s : Search W} {b : ℕ} (grows : Growing G.ops b s) (i : ℕ) (known : i < length s.net.arcs.now) where
+  abbrev a : Arc
+  a = arc_at s.net.arcs.now i
+
+  abbrev at : ℕ → W
+  at v = potential G.ops s.potentials.now v
+
+  from_in : a.from < s.net.nodes
+  from_in = (grows.forest.sound i known).from_in
+
+  to_in : a.to < s.net.nodes
+  to_in = (grows.forest.sound i known).to_in
+
+  reads : {v k : ℕ} → v ≡ k → k < s.net.nodes → (d : W) → get_or s.potentials.now v d ≡ at k
+  reads {v} {k} is l d = get_or_default s.potentials.now v d G.ops.none (omega (arith, grows.forest.potentials_long)) ∙ ap at is
+
+  module _ {v w : ℕ} (v-is : v ≡ a.from) (w-is : w ≡ a.to) (d e : W) {u : W} (unit : u ≡ G.ops.unit a.price a.weeks) {x : W} (x-is : x ≡ G.ops.plus (get_or s.potentials.now v d) u) where
+    sum_is : x ≡ G.ops.plus (at a.from) (G.ops.unit a.price a.weeks)
+    sum_is = x-is ∙ ap₂ G.ops.plus (reads v-is from_in d) unit
+
+    pub backward_rises : 0 < a.flow → G.ops.less x (get_or s.potentials.now w e) ≡ true → {y : W} → y ≡ G.ops.plus (get_or s.potentials.now w e) (G.ops.neg u) → RisesAlong G.ops s i (Some (Backward i, y))
+    backward_rises room less {y} y-is = (refl, (room, offered, subst₂ (Lt G.ops) back (sym offered) (shifted ∙ lower)))
+      where
+        c : W
+        c = G.ops.unit a.price a.weeks
+
+        offered : y ≡ G.ops.plus (at a.to) (G.ops.neg c)
+        offered = y-is ∙ ap₂ G.ops.plus (reads w-is to_in e) (ap G.ops.neg unit)
+
+        lower : G.ops.less (G.ops.plus (at a.from) c) (at a.to) ≡ true
+        lower = subst₂ (Lt G.ops) sum_is (reads w-is to_in e) less
+
+        shifted : G.ops.less (G.ops.plus (G.ops.plus (at a.from) c) (G.ops.neg c)) (G.ops.plus (at a.to) (G.ops.neg c)) ≡ G.ops.less (G.ops.plus (at a.from) c) (at a.to)
+        shifted = G.laws.shifted (G.ops.plus (at a.from) c) (at a.to) (G.ops.neg c)
+
+        back : G.ops.plus (G.ops.plus (at a.from) c) (G.ops.neg c) ≡ at a.from
+        back = G.laws.assoc (at a.from) c (G.ops.neg c) ∙ ap (G.ops.plus (at a.from)) (G.laws.inverse c) ∙ unit_right G (at a.from)
 
 -- the arcs below i are read again
 pub record Again (bs ls : List Arc) (i : ℕ) : Type 0 where
@@ -109,6 +153,10 @@ up_cut ls ms ks js e c v (s ∷ q) up = ⊎_elim (λ n. ([], n)) (λ k. on (k.0 
     on : link js v ≡ Some s → (p : List Step) × Up ms js (tail_of ls s) p → (p : List Step) × Up ms js v p
     on is z = (s ∷ z.0, (is, subst (λ x. Up ms js x z.0) (tail_same ls ms e s) z.1))
 
+-- a shift changes no end
+pub paired_same : {ls ms : List Arc} {ks : List (Option Step)} {us : List ℕ} → SameArcs ls ms → Paired ls ks us → Paired ms ks us
+paired_same {ls} {ms} {ks} {us} e p = record { long = p.long; each = λ v l. let z = p.each v l in record { off = z.off; on = λ s is. z.on s is ∙ tail_same ls ms e s } }
+
 -- what is left of a forest after a shift
 pub forest_cut : {W : Type 0} (G : Kind W) (n : ℕ) (ls ms : List Arc) (xs : List W) (ks js : List (Option Step)) → Forest G.ops n ls xs ks → SameArcs ls ms → SoundArcs n ms → Cut ms ks js → Forest G.ops n ms xs js
 forest_cut G n ls ms xs ks js f e z c = record {
@@ -129,38 +177,41 @@ forest_cut G n ls ms xs ks js f e z c = record {
         }
 
 -- after k passes: what has become of the network s, with the sum of the rises
-pub record Running {W : Type 0} (o : Ops W) (s t : Net) (ls : List Arc) (xs : List W) (ks : List (Option Step)) (sum : W) (from k : ℕ) : Type 0 where
+pub record Running {W : Type 0} (o : Ops W) (s t : Net) (ls : List Arc) (xs : List W) (ks : List (Option Step)) (us : List ℕ) (sum : W) (from k : ℕ) : Type 0 where
   pub climb : Climb o s sum t
   pub read : ls ≡ t.arcs
+  pub paired : Paired ls ks us
   pub forest : Forest o t.nodes t.arcs xs ks
   pub small : Small o (896 * k) xs
   pub start : from ≤ length t.arcs
 
 module _ {W : Type 0} (G : Kind W) where
-  pub run_first : (s : Net) (z : Sound s) (ls : List Arc) → ls ≡ s.arcs → (xs : List W) → length xs ≡ s.nodes → ((v : ℕ) → potential G.ops xs v ≡ G.ops.none) → (ks : List (Option Step)) → length ks ≡ 272 → Unlinked ks → (sum : W) → sum ≡ G.ops.none → Running G.ops s s ls xs ks sum 0 0
-  run_first s z ls read xs long none ks wide unlinked sum is = record {
+  pub run_first : (s : Net) (z : Sound s) (ls : List Arc) → ls ≡ s.arcs → (xs : List W) → length xs ≡ s.nodes → ((v : ℕ) → potential G.ops xs v ≡ G.ops.none) → (ks : List (Option Step)) → length ks ≡ 272 → Unlinked ks → (us : List ℕ) → length us ≡ 272 → ((v : ℕ) → v < 272 → get_or us v 0 ≡ 272) → (sum : W) → sum ≡ G.ops.none → Running G.ops s s ls xs ks us sum 0 0
+  run_first s z ls read xs long none ks wide unlinked us broad all sum is = record {
     climb = subst (λ x. Climb G.ops s x s) (sym is) still;
     read = read;
+    paired = bare_paired ls ks us wide unlinked broad all;
     forest = bare G s.nodes s.arcs xs ks z.each long (let h = z.few_nodes in omega arith) none unlinked;
     small = λ v. omega (arith, ap G.ops.size (none v), G.laws.size_none);
     start = omega arith;
   }
 
-  module _ {s t : Net} {ls : List Arc} {xs : List W} {ks : List (Option Step)} {sum : W} {from k : ℕ} (r : Running G.ops s t ls xs ks sum from k) where
+  module _ {s t : Net} {ls : List Arc} {xs : List W} {ks : List (Option Step)} {us : List ℕ} {sum : W} {from k : ℕ} (r : Running G.ops s t ls xs ks us sum from k) where
     pub run_small : k < 1000 → Small G.ops 999000 xs
     run_small h v = let q = r.small v in omega arith
 
     module _ {xs' : List W} {ks' : List (Option Step)} (w : Went G.ops t.nodes t.arcs xs xs' ks' 896) where
-      pub run_moved : {k' : ℕ} → k' ≡ k + 1 → Running G.ops s t ls xs' ks' sum 0 k'
-      run_moved next = record { climb = r.climb; read = r.read; forest = w.forest; small = λ v. let q = w.sizes (896 * k) r.small v in omega arith; start = omega arith }
+      pub run_moved : {us' : List ℕ} → Paired ls ks' us' → {k' : ℕ} → k' ≡ k + 1 → Running G.ops s t ls xs' ks' us' sum 0 k'
+      run_moved paired next = record { climb = r.climb; read = r.read; paired = paired; forest = w.forest; small = λ v. let q = w.sizes (896 * k) r.small v in omega arith; start = omega arith }
 
-      pub run_taken : (u : Net) → Sound u → {ms : List Arc} {js : List (Option Step)} {rise sum' : W} (step : Step) → Closing G.ops t.nodes t.arcs ks' step → Improves G.ops t u rise → ms ≡ u.arcs → Cut ms ks' js → sum' ≡ G.ops.plus sum rise → {from' k' : ℕ} → from' ≡ arc step → k' ≡ k + 1 → Running G.ops s u ms xs' js sum' from' k'
-      run_taken u z {ms} {js} {rise} step closing i read cut sum-is from-is next = record {
+      pub run_taken : (u : Net) → Sound u → {ms : List Arc} {js : List (Option Step)} {vs : List ℕ} {rise sum' : W} (step : Step) → Closing G.ops t.nodes t.arcs ks' step → Improves G.ops t u rise → ms ≡ u.arcs → Cut ms ks' js → Paired ms js vs → sum' ≡ G.ops.plus sum rise → {from' k' : ℕ} → from' < length t.arcs → k' ≡ k + 1 → Running G.ops s u ms xs' js vs sum' from' k'
+      run_taken u z {ms} {js} {rise} step closing i read cut paired sum-is from-in next = record {
         climb = subst (λ x. Climb G.ops s x u) (sym sum-is) (more r.climb i);
         read = read;
+        paired = paired;
         forest = subst (λ m. Forest G.ops m u.arcs xs' js) (sym i.nodes) (forest_cut G t.nodes t.arcs u.arcs xs' ks' js w.forest i.arcs (subst (λ m. SoundArcs m u.arcs) i.nodes z.each) (subst (λ l. Cut l ks' js) read cut));
         small = λ v. let q = w.sizes (896 * k) r.small v in omega arith;
-        start = let a = closing.known in let b = i.arcs.long in omega arith;
+        start = let b = i.arcs.long in omega arith;
       }
 
 pub run_add : {W : Type 0} {o : Ops W} (laws : Laws o) {s t u : Net} {sum rise : W} → Climb o s sum t → Sound s → Sound t → Sound u → Improves o t u rise → o.size sum + o.size rise ≤ 4194304

@@ -18,7 +18,6 @@ use Rattle.search.specs.Links.{tail_of, head_of, residual_of, Linked, Rooted, To
 use Rattle.search.specs.Sweeps.{code, Small, Low, offer, Offered, Forest, Closing, Relaxed, Swept, Sweeps}
 use Rattle.search.specs.Searches.{Same, Growing}
 use Rattle.search.specs.declared.sweep.Search.{Search}
-use Rattle.search.specs.declared.links.Links.{Links}
 use Rattle.worth.specs.Kinds.{Ops}
 use Rattle.search.proofs.Steps.{has_arc}
 use Rattle.search.proofs.Forests.{tail_in, head_in, step_small, forest_linked, forest_rooted, way_short, under, closes, grown, set_low}
@@ -76,7 +75,7 @@ module _ {W : Type 0} (G : Kind W) {s : Search W} {b : ℕ} (grows : Growing G.o
     rooted = forest_rooted G s.net.nodes ls s.potentials.now s.links.now grows.forest (tail_of ls t) from_node
 
     -- what is read at a node, whatever default it is read with
-    read : (v k : ℕ) (d : W) → v ≡ k → k < s.net.nodes → get_or s.potentials.now v d ≡ potential G.ops s.potentials.now k
+    pub read : (v k : ℕ) (d : W) → v ≡ k → k < s.net.nodes → get_or s.potentials.now v d ≡ potential G.ops s.potentials.now k
     read v k d is l = get_or_default s.potentials.now v d G.ops.none (omega (arith, grows.forest.potentials_long)) ∙ ap (potential G.ops s.potentials.now) is
 
     -- what is read at its tail, and what it is worth
@@ -99,10 +98,10 @@ module _ {W : Type 0} (G : Kind W) {s : Search W} {b : ℕ} (grows : Growing G.o
     more : Lt G.ops (potential G.ops s.potentials.now (head_of ls t)) (offer G.ops s.net.nodes ls s.potentials.now t)
     more = subst (Lt G.ops (potential G.ops s.potentials.now (head_of ls t))) offered.1 offered.2
 
-    -- whether its head is on its own way up, as a view of the links tells it
-    module _ (l : Links) (net-is : l.net ≡ s.net) (last-is : l.last.now ≡ s.links.now) {from to : ℕ} (from-is : from ≡ tail_of ls t) (to-is : to ≡ head_of ls t) {r : Bool} (told : Told l.net.arcs.now l.last.now from to r) where
+    -- whether its head is on its own way up
+    module _ {from to : ℕ} (from-is : from ≡ tail_of ls t) (to-is : to ≡ head_of ls t) {r : Bool} (told : Told ls s.links.now from to r) where
       told_here : Told ls s.links.now (tail_of ls t) (head_of ls t) r
-      told_here = subst₂ (λ v x. Told ls s.links.now v x r) from-is to-is (subst₂ (λ k js. Told k.arcs.now js from to r) net-is last-is told)
+      told_here = subst₂ (λ v x. Told ls s.links.now v x r) from-is to-is told
 
       pub closed : r ≡ true → Closing G.ops s.net.nodes ls s.links.now t
       closed e =
@@ -212,7 +211,7 @@ module _ {W : Type 0} (G : Kind W) (n : ℕ) (ls : List Arc) where
           le_lt_absurd G (potential G.ops xs' v) (potential G.ops xs v) (le_trans G (potential G.ops xs' v) (reach G N (flow_of ls) k v) (potential G.ops xs v) (under G n ls xs' ks' w.forest w.low k v (omega arith) z.1) (r.above v z.1)) z.2
 
 pub same_on : {W : Type 0} {s t u : Search W} → Same s t → Same t u → Same s u
-same_on a b = record { net = b.net ∙ a.net; held = b.held ∙ a.held; linked = b.linked ∙ a.linked }
+same_on a b = record { net = b.net ∙ a.net; held = b.held ∙ a.held; linked = b.linked ∙ a.linked; row = b.row ∙ a.row }
 
 -- the search t has come from s by relaxing the steps numbered below k
 pub record SweptTo {W : Type 0} (o : Ops W) (s t : Search W) (moved : Bool) (k : ℕ) : Type 0 where

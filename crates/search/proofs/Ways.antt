@@ -1,21 +1,17 @@
 -- Ways up along the links.
-use Rattle.std.proofs.Common.{◌≡◌, ℕ, zero, suc, ◌≤◌, Bool, true, false, ◌==◌, ◌↔◌, List, [], ◌∷◌, length, Some, None, Option, sym, refl, subst, ap₂, ⊎_elim, arith}
-use Rattle.std.specs.List.{list_any}
-use Rattle.std.proofs.lemmas.Bool.{true≢false, cases_eq, eq-eqb, ne_eqb}
+use Rattle.std.proofs.Common.{get_or, set, ◌≡◌, ℕ, ◌+◌, ◌<◌, ◌≤◌, ◌⊎◌, inl, inr, true, false, ◌↔◌, List, [], ◌∷◌, length, Some, None, Option, sym, refl, ap, ◌∙◌, subst, subst₂, ap₂, ⊎_elim, arith}
+use Rattle.std.proofs.lemmas.List.{get_or_past, length-set, get_or-set_same, get_or-set_other}
+use Rattle.std.proofs.lemmas.Bool.{true≢false, cases_eq}
 use Rattle.flow.specs.declared.arc.Arc.{Arc}
 use Rattle.flow.specs.declared.step.Step.{Step}
 use Rattle.flow.specs.Steps.{Fresh}
-use Rattle.search.specs.Links.{tail_of, link, Up, line, climb}
+use Rattle.search.specs.Links.{tail_of, link, Unlinked, Up, line, Rooted, Told, Stands, Paired}
 
 pub none_some : {A : Type 0} (x : Option A) (s : A) → x ≡ None → x ≡ Some s → ⊥
 none_some x s e f = let z : ◌≡◌ {A = ℕ} 0 1 = cc in omega arith
 
 pub same_some : {A : Type 0} (x : Option A) (s t : A) → x ≡ Some s → x ≡ Some t → s ≡ t
 same_some x s t e f = cc
-
--- whether a step starts from the goal
-abbrev pub from_goal : List Arc → ℕ → Step → Bool
-from_goal ls goal s = tail_of ls s == goal
 
 module _ (ls : List Arc) (ks : List (Option Step)) where
   -- there is but one way up
@@ -34,14 +30,72 @@ module _ (ls : List Arc) (ks : List (Option Step)) where
   pub met : (v goal : ℕ) → v ≡ goal → (q : List Step) → (true ≡ false) ↔ Fresh goal (line ls v q)
   met v goal e q = (λ f. absurd (true≢false f), λ f. absurd (not_fresh v q (subst (λ x. Fresh x (line ls v q)) (sym e) f)))
 
-  -- from a node other than the goal, the way up passes the goal where one of its steps starts there
-  pub passed : (goal k v : ℕ) (q : List Step) → Up ls ks v q → length q ≤ k → (v ≡ goal → ⊥) → (list_any (from_goal ls goal) (climb ls ks goal (link ks v) k) ≡ false) ↔ Fresh goal (line ls v q)
-  passed goal k v [] up h d = rw up ((λ e. ((λ g. d (sym g)), tt)), (λ f. refl))
-  passed goal zero v (s ∷ q) up h d = absurd (omega arith)
-  passed goal (suc k) v (s ∷ q) up h d = rw up.0 (⊎_elim here (λ n. on n (passed goal k (tail_of ls s) q up.1 (omega arith) n)) (cases_eq (tail_of ls s) goal))
-    where
-      here : tail_of ls s ≡ goal → (list_any (from_goal ls goal) (climb ls ks goal (Some s) (suc k)) ≡ false) ↔ Fresh goal (v ∷ line ls (tail_of ls s) q)
-      here e = let b : (tail_of ls s == goal) ≡ true = eq-eqb (tail_of ls s) goal e in rw b ((λ f. absurd (true≢false f)), (λ f. absurd (not_fresh (tail_of ls s) q (subst (λ x. Fresh x (line ls (tail_of ls s) q)) (sym e) f.1))))
+  -- on the way up from a node to where there are k steps less to come: what stands there still decides, or the root is passed
+  abbrev pub Climbing : ℕ → ℕ → ℕ → ℕ → Type 0
+  Climbing goal from v k =
+      ((q : List Step) × Up ls ks v q × (length q + k < length ks) × ((p : List Step) → Up ls ks from p → Fresh goal (line ls v q) ↔ Fresh goal (line ls from p)))
+      ⊎ ((length ks ≤ v) × ((p : List Step) → Up ls ks from p → Fresh goal (line ls from p)))
 
-      on : (tail_of ls s ≡ goal → ⊥) → (list_any (from_goal ls goal) (climb ls ks goal (link ks (tail_of ls s)) k) ≡ false) ↔ Fresh goal (line ls (tail_of ls s) q) → (list_any (from_goal ls goal) (climb ls ks goal (Some s) (suc k)) ≡ false) ↔ Fresh goal (v ∷ line ls (tail_of ls s) q)
-      on n rest = let b : (tail_of ls s == goal) ≡ false = ne_eqb (tail_of ls s) goal n in rw b ((λ f. ((λ g. d (sym g)), rest.0 f)), (λ f. rest.1 f.1))
+  pub climb_first : (goal from : ℕ) → Rooted ls ks from → Climbing goal from from 0
+  climb_first goal from r = inl (r.0, r.1, (let h = r.2 in omega arith), λ p u. subst (λ q. Fresh goal (line ls from r.0) ↔ Fresh goal (line ls from q)) (one_way from r.0 p r.1 u) (λ f. f, λ f. f))
+
+  pub climb_met : {goal from v : ℕ} (k : ℕ) → Climbing goal from v k → v ≡ goal → goal < length ks → Told ls ks from goal true
+  climb_met {goal} {from} {v} k (inl c) e l p u = (λ f. absurd (true≢false f), λ f. (met v goal e c.0).1 ((c.3 p u).1 f))
+  climb_met k (inr c) e l p u = absurd (let h = c.0 in omega arith)
+
+  pub climb_end : {goal from v : ℕ} (k : ℕ) → Climbing goal from v k → (v ≡ goal → ⊥) → length ks ≤ v → Told ls ks from goal false
+  climb_end {goal} {from} {v} k (inl c) d h p u = (λ f. (c.3 p u).0 (last c.0 c.1), λ f. refl)
+    where
+      last : (q : List Step) → Up ls ks v q → Fresh goal (line ls v q)
+      last [] w = ((λ e. d (sym e)), tt)
+      last (s ∷ q) w = absurd (none_some (link ks v) s (get_or_past ks v None h) w.0)
+  climb_end k (inr c) d h p u = (λ f. c.1 p u, λ f. refl)
+
+  pub climb_done : {goal from v k : ℕ} → Climbing goal from v k → length ks ≤ k → Told ls ks from goal false
+  climb_done (inl c) h p u = absurd (let l = c.2 in omega arith)
+  climb_done (inr c) h p u = (λ f. c.1 p u, λ f. refl)
+
+  pub climb_on : {us : List ℕ} → Paired ls ks us → {goal from v : ℕ} (k : ℕ) → Climbing goal from v k → (v ≡ goal → ⊥) → v < length ks → {x : ℕ} → x ≡ get_or us v 0 → {k' : ℕ} → k' ≡ k + 1 → Climbing goal from x k'
+  climb_on {us} pair {goal} {from} {v} k (inl c) d l {x} is {k'} next = go c.0 c.1 c.2 c.3 (pair.each v l)
+    where
+      go : (q : List Step) → Up ls ks v q → length q + k < length ks → ((p : List Step) → Up ls ks from p → Fresh goal (line ls v q) ↔ Fresh goal (line ls from p)) → Stands ls (length ks) (link ks v) (get_or us v 0) → Climbing goal from x k'
+      go [] w h f stands = inr (let z = stands.off w in omega arith, λ p u. (f p u).0 ((λ e. d (sym e)), tt))
+      go (s ∷ q) w h f stands =
+          let z = is ∙ stands.on s w.0 in
+          inl (q, subst (λ y. Up ls ks y q) (sym z) w.1, omega arith, λ p u. (λ a. (f p u).0 ((λ e. d (sym e)), subst (λ y. Fresh goal (line ls y q)) z a), λ b. subst (λ y. Fresh goal (line ls y q)) (sym z) ((f p u).1 b).1))
+  climb_on pair k (inr c) d l is next = absurd (let h = c.0 in omega arith)
+
+-- a link set, with its entry in the row
+pub paired_set : (ls : List Arc) (ks : List (Option Step)) (us : List ℕ) (v : ℕ) (s : Step) (u : ℕ) → Paired ls ks us → u ≡ tail_of ls s → Paired ls (set ks v (Some s)) (set us v u)
+paired_set ls ks us v s u p is = record {
+  long = length-set us v u ∙ p.long ∙ sym (length-set ks v (Some s));
+  each = λ x l. let k = length-set ks v (Some s) in subst (λ n. Stands ls n (link (set ks v (Some s)) x) (get_or (set us v u) x 0)) (sym k) (each x (omega arith));
+}
+  where
+    each : (x : ℕ) → x < length ks → Stands ls (length ks) (link (set ks v (Some s)) x) (get_or (set us v u) x 0)
+    each x l =
+        ⊎_elim
+        (λ e. subst₂ (Stands ls (length ks)) (sym (ap (λ y. link (set ks y (Some s)) x) (sym e) ∙ get_or-set_same ks x (Some s) None l)) (sym (ap (λ y. get_or (set us y u) x 0) (sym e) ∙ get_or-set_same us x u 0 (let h = p.long in omega arith))) (record { off = λ z. absurd (none_some (Some s) s z refl); on = λ t z. is ∙ ap (tail_of ls) (same_some (Some s) s t refl z) }))
+        (λ d. subst₂ (Stands ls (length ks)) (sym (get_or-set_other ks v x (Some s) None d)) (sym (get_or-set_other us v x u 0 d)) (p.each x l))
+        (cases_eq x v)
+
+-- a link taken away, with its entry
+pub paired_cut : (ls : List Arc) (ks : List (Option Step)) (us : List ℕ) (v u : ℕ) → Paired ls ks us → length ks ≤ u → Paired ls (set ks v None) (set us v u)
+paired_cut ls ks us v u p h = record {
+  long = length-set us v u ∙ p.long ∙ sym (length-set ks v None);
+  each = λ x l. let k = length-set ks v None in subst (λ n. Stands ls n (link (set ks v None) x) (get_or (set us v u) x 0)) (sym k) (each x (omega arith));
+}
+  where
+    each : (x : ℕ) → x < length ks → Stands ls (length ks) (link (set ks v None) x) (get_or (set us v u) x 0)
+    each x l =
+        ⊎_elim
+        (λ e. subst₂ (Stands ls (length ks)) (sym (ap (λ y. link (set ks y None) x) (sym e) ∙ get_or-set_same ks x None None l)) (sym (ap (λ y. get_or (set us y u) x 0) (sym e) ∙ get_or-set_same us x u 0 (let k = p.long in omega arith))) (record { off = λ z. h; on = λ t z. absurd (none_some None t refl z) }))
+        (λ d. subst₂ (Stands ls (length ks)) (sym (get_or-set_other ks v x None None d)) (sym (get_or-set_other us v x u 0 d)) (p.each x l))
+        (cases_eq x v)
+
+-- where nothing is linked
+pub bare_paired : (ls : List Arc) (ks : List (Option Step)) (us : List ℕ) → length ks ≡ 272 → Unlinked ks → length us ≡ 272 → ((v : ℕ) → v < 272 → get_or us v 0 ≡ 272) → Paired ls ks us
+bare_paired ls ks us wide unlinked broad all = record {
+  long = omega arith;
+  each = λ v l. record { off = λ z. (let e = all v (omega arith) in omega arith); on = λ t z. absurd (none_some (link ks v) t (unlinked v) z) };
+}

@@ -1,6 +1,6 @@
 -- Steps over a table of arcs, and the links of a search: for each node the step by which its potential was raised last,
 -- or none. These words serve the contracts of the search's inner functions only.
-use Rattle.std.specs.Prelude.{◌≡◌, ℕ, zero, suc, ◌-◌, ◌<◌, Bool, false, cond, ◌==◌, ◌↔◌, List, [], ◌∷◌, length, Some, None, Option, ◌≢◌, slice_index_or}
+use Rattle.std.specs.Prelude.{◌≡◌, ℕ, zero, suc, ◌-◌, ◌<◌, ◌≤◌, Bool, false, cond, ◌==◌, ◌↔◌, List, [], ◌∷◌, length, Some, None, Option, ◌≢◌, slice_index_or}
 use Rattle.flow.specs.declared.arc.Arc.{Arc}
 use Rattle.flow.specs.declared.step.Step.{Step}
 use Rattle.flow.specs.Arcs.{arc_at, flow_of}
@@ -48,6 +48,16 @@ line ls v (s ∷ q) = v ∷ line ls (tail_of ls s) q
 -- there is a way up from node v, shorter than the table of links
 abbrev pub Rooted : List Arc → List (Option Step) → ℕ → Type 0
 Rooted ls ks v = (q : List Step) × Up ls ks v q × (length q < length ks)
+
+-- u stands for a link in a row of n nodes: the node that it starts from, or, where there is no link, none of them
+pub record Stands (ls : List Arc) (n : ℕ) (k : Option Step) (u : ℕ) : Type 0 where
+  pub off : k ≡ None → n ≤ u
+  pub on : (s : Step) → k ≡ Some s → u ≡ tail_of ls s
+
+-- the row us says of each node where its link starts from
+pub record Paired (ls : List Arc) (ks : List (Option Step)) (us : List ℕ) : Type 0 where
+  pub long : length us ≡ length ks
+  pub each : (v : ℕ) → v < length ks → Stands ls (length ks) (link ks v) (slice_index_or us v 0)
 
 -- r says whether the way up from node v passes the goal
 abbrev pub Told : List Arc → List (Option Step) → ℕ → ℕ → Bool → Type 0

@@ -1,10 +1,11 @@
 -- What is known of a search and of a cycle that it has found.
-use Rattle.std.specs.Prelude.{◌≡◌, ℕ, ◌≤◌, Bool, List, length, Some, Option}
+use Rattle.std.specs.Prelude.{◌≡◌, ℕ, ◌≤◌, Bool, List, length, Some, None, Option}
 use Rattle.std.specs.declared.ops.ControlFlow.{ControlFlow}
 use Rattle.worth.specs.Kinds.{Ops}
 use Rattle.network.specs.Networks.{Net}
 use Rattle.network.specs.Potentials.{potential}
 use Rattle.flow.specs.declared.step.Step.{Step}
+use Rattle.flow.specs.Steps.{arc}
 use Rattle.search.specs.declared.residual.Residual.{Residual}
 use Rattle.search.specs.declared.cycle.Cycle.{Cycle}
 use Rattle.search.specs.declared.cycle.Measure.{Measure}
@@ -27,6 +28,7 @@ pub record Same {W : Type 0} (s t : Search W) : Type 0 where
   pub net : t.net ≡ s.net
   pub held : t.potentials.ghost_name ≡ s.potentials.ghost_name
   pub linked : t.links.ghost_name ≡ s.links.ghost_name
+  pub row : t.ups.ghost_name ≡ s.ups.ghost_name
 
 module _ {W : Type 0} (o : Ops W) where
   -- nothing is raised yet
@@ -48,6 +50,11 @@ module _ {W : Type 0} (o : Ops W) where
   -- what step t offers in s
   abbrev pub Offers : Search W → Step → Option W → Type 0
   Offers s t r = Offered o s.net.nodes s.net.arcs.now s.potentials.now t r
+
+  -- r is a step along arc i that offers more than there is, with what it offers
+  abbrev pub RisesAlong : Search W → ℕ → Option (Step × W) → Type 0
+  RisesAlong s i None = Unit {0}
+  RisesAlong s i (Some z) = (arc z.0 ≡ i) × Offers s z.0 (Some z.1)
 
   -- relaxing step t takes s to s'
   abbrev pub Relaxes : Search W → Search W → Step → ControlFlow Step Bool → Type 0

@@ -4,7 +4,7 @@ ghost use Rattle.search.specs.Uses.{Law};
 
 use super::residual::Residual;
 use super::shift::shift;
-use super::sweep::{Search, blank, no_links};
+use super::sweep::{Search, blank, no_links, no_ups};
 use flow::arc::Arc;
 use network::improvable::Improvable;
 use network::readable::Network;
@@ -37,7 +37,8 @@ fn improve_within<N: Improvable>(net: &mut N, work: &mut [N::W]) -> Option<N::W>
         arcs: table.as_slice(),
     };
     let mut links = no_links();
-    let mut search = Search::new(residual, work, &mut links);
+    let mut ups = no_ups();
+    let mut search = Search::new(residual, work, &mut links, &mut ups);
     let closing = search.find_cycle()?;
     let cycle = search.cycle(closing);
     let rise = shift(net, cycle, cycle.measure());

@@ -1,6 +1,6 @@
 // The links of a search, and the way up along them.
 ghost use Rattle.std.specs.Prelude.{◌≡◌, ◌≤◌, length};
-ghost use Rattle.search.specs.Links.{link, Rooted, Told, climb, after};
+ghost use Rattle.search.specs.Links.{link, climb, after};
 
 use super::residual::Residual;
 use flow::step::Step;
@@ -72,16 +72,5 @@ impl<'a> Links<'a> {
             goal,
             left: self.last.len(),
         }
-    }
-
-    // Whether the way from a node up along the links passes `goal`.
-    pub(crate) fn passes(self, from: usize, goal: usize) -> bool
-        requires { Rooted self.net.arcs.now self.last.now from }
-        ensures { Told self.entry.net.arcs.now self.entry.last.now from goal result }
-    {
-        from == goal
-            || self
-                .ascent(self.of(from), goal)
-                .any(|step| self.net.tail(step) == goal)
     }
 }

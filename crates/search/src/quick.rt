@@ -4,6 +4,7 @@ ghost use Rattle.std.specs.Prelude.{◌≡◌, ◌≤◌, length};
 ghost use Rattle.flow.specs.Steps.{arc};
 ghost use Rattle.search.specs.Outcomes.{Climb, Improves};
 ghost use Rattle.search.specs.Sweeps.{Small, Forest, Closing};
+ghost use Rattle.search.specs.Links.{Paired};
 ghost use Rattle.search.specs.Passes.{Cut, Passed};
 ghost use Rattle.search.specs.Searches.{net_of};
 
@@ -12,7 +13,7 @@ use super::improve::read_arcs;
 use super::links::Links;
 use super::residual::Residual;
 use super::shift::shift;
-use super::sweep::{Search, blank, no_links};
+use super::sweep::{Search, blank, no_links, no_ups, turn};
 use flow::arc::Arc;
 use flow::step::Step;
 use network::improvable::Improvable;
@@ -43,14 +44,18 @@ fn read_again<N: Network>(net: &N, table: &mut Table<Arc, 448>)
     }
 }
 
-// Takes away the links that can take nothing any more, by number: over `iter_mut` the proof of which are left did not close.
-fn cut(net: Residual, links: &mut [Option<Step>])
-    ensures { Cut net.entry.arcs.now links.old links.new }
+// Takes away the links that can take nothing any more. It goes by number, since it writes in two rows.
+fn cut(net: Residual, links: &mut [Option<Step>], ups: &mut [usize])
+    requires { Paired net.arcs.now links.old ups.old }
+    ensures cut { Cut net.entry.arcs.now links.old links.new }
+    ensures paired { Paired net.entry.arcs.now links.new ups.new }
 {
-    for v in 0..links.len() {
+    let n = links.len();
+    for v in 0..n {
         if let Some(step) = links[v] {
             if net.room(step) == 0 {
                 links[v] = None;
+                ups[v] = n;
             }
         }
     }
@@ -62,14 +67,18 @@ fn pass<W: Worth>(
     net: Residual,
     potentials: &mut [W],
     links: &mut [Option<Step>],
+    ups: &mut [usize],
     from: usize,
+    turned: bool,
 ) -> ControlFlow<Step, bool>
     requires start { from ≤ length net.arcs.now }
+    requires paired { Paired net.arcs.now links.old ups.old }
     requires forest { Forest W.ops net.nodes net.arcs.now potentials.old links.old }
     requires small { Small W.ops 999000 potentials.old }
-    ensures { Passed W.ops net.entry.nodes net.entry.arcs.now potentials.old potentials.new links.new result }
+    ensures passed { Passed W.ops net.entry.nodes net.entry.arcs.now potentials.old potentials.new links.new result }
+    ensures paired { Paired net.entry.arcs.now links.new ups.new }
 {
-    Search::resume(net, potentials, links).pass(from)
+    Search::resume(net, potentials, links, ups).pass(from, turned)
 }
 
 // The cycle that a step closes.
@@ -105,8 +114,10 @@ fn take<N: Improvable>(
     net: &mut N,
     table: &mut Table<Arc, 448>,
     links: &mut [Option<Step>],
+    ups: &mut [usize],
     closing: Step,
 ) -> N::W
+    requires paired { Paired table.old links.old ups.old }
     requires read { table.old ≡ (N.Network.net net.old).arcs }
     requires long { (N.Network.net net.old).nodes ≤ length links.old }
     requires closes { Closing N.W.Worth.ops (N.Network.net net.old).nodes table.old links.old closing }
@@ -114,6 +125,7 @@ fn take<N: Improvable>(
     ensures kept { N.Improvable.alike net.old net.new }
     ensures read { table.new ≡ (N.Network.net net.new).arcs }
     ensures cut { Cut table.new links.old links.new }
+    ensures paired { Paired table.new links.new ups.new }
 {
     let (nodes, _) = net.counts();
     let residual = Residual {
@@ -126,7 +138,7 @@ fn take<N: Improvable>(
         nodes: nodes as usize,
         arcs: table.as_slice(),
     };
-    cut(after, links);
+    cut(after, links, ups);
     rise
 }
 
@@ -139,25 +151,29 @@ pub(crate) fn climb_quickly<N: Improvable>(net: &mut N, potentials: &mut [N::W])
     let mut table = Table::default();
     read_arcs(net, &mut table);
     let mut links = no_links();
+    let mut ups = no_ups();
     blank(potentials);
     let mut sum = N::W::none();
     let mut from = 0;
+    // passes take turns in their order, so that what rises at one end soon reaches the other
+    let mut turned = false;
     for _k in 0..1000usize {
         let residual = Residual {
             nodes: potentials.len(),
             arcs: table.as_slice(),
         };
-        match pass(residual, potentials, &mut links, from) {
+        match pass(residual, potentials, &mut links, &mut ups, from, turned) {
             ControlFlow::Break(closing) => {
-                let rise = take(net, &mut table, &mut links, closing);
+                from = turn(arc_of(closing), table.len(), turned);
+                let rise = take(net, &mut table, &mut links, &mut ups, closing);
                 sum = sum.plus(rise);
-                from = arc_of(closing);
             }
             ControlFlow::Continue(moved) => {
                 if !moved && from == 0 {
                     return sum;
                 }
                 from = 0;
+                turned = !turned;
             }
         }
     }

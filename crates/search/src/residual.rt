@@ -19,7 +19,7 @@ pub(crate) struct Residual<'a> {
 
 impl<'a> Residual<'a> {
     // Arc i, or an idle one where there is none, so that each question below has an answer for every step.
-    fn arc(self, i: usize) -> Arc
+    pub(crate) fn arc(self, i: usize) -> Arc
         ensures { result ≡ arc_at self.entry.arcs.now i }
     {
         self.arcs.get(i).copied().unwrap_or_default()

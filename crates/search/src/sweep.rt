@@ -1,7 +1,7 @@
 // The search for a cycle worth more than none: potentials are raised in place, step by step, until a step
 // closes a cycle or a whole sweep raises nothing; then the potentials fit.
-ghost use Rattle.std.specs.Prelude.{◌≡◌, ◌≤◌, ℕ, [], ◌∷◌, length, slice_index_or};
-ghost use Rattle.search.specs.Links.{Unlinked};
+ghost use Rattle.std.specs.Prelude.{◌≡◌, ◌<◌, ◌≤◌, ℕ, [], ◌∷◌, length, Some, slice_index_or, slice_set};
+ghost use Rattle.search.specs.Links.{Unlinked, Paired, Rooted, Told};
 
 use super::cycle::Cycle;
 use super::links::Links;
@@ -11,31 +11,36 @@ use std::ops::ControlFlow;
 use worth::kind::Worth;
 
 // A potential and a link for each node of a network: two rows, since the potentials lie in the work table that the caller lends.
-// Both are lent, so that a search can go on where another ended.
+// Beside each link lies the node that it starts from, since the ways up are gone often. All are lent, so that a search can go on where another ended.
 // `Same` is what each method that writes keeps; `Growing` is no invariant, since its bound differs from call to call.
 #[derive(Drop)]
 pub(crate) struct Search<'a, W> {
     net: Residual<'a>,
     potentials: &'a mut [W],
     links: &'a mut [Option<Step>],
+    ups: &'a mut [usize],
     ghost long: { net.nodes ≤ length links.now },
+    ghost paired: { Paired net.arcs.now links.now ups.now },
 }
 
 impl<'a, W: Worth> Search<'a, W> {
-    ghost use Rattle.search.specs.Searches.{Same, Begun, Growing, Grounded, Offers, Relaxes, SweepsTo, PassesTo, Finds, ClosedBy, Closes};
+    ghost use Rattle.search.specs.Searches.{Same, Begun, Growing, Grounded, Offers, RisesAlong, Relaxes, SweepsTo, PassesTo, Finds, ClosedBy, Closes};
 
     // Nothing is raised yet.
     pub(crate) fn new(
         net: Residual<'a>,
         potentials: &'a mut [W],
         links: &'a mut [Option<Step>],
+        ups: &'a mut [usize],
     ) -> Search<'a, W>
         requires long { length potentials.old ≡ net.nodes }
         requires links_long { net.nodes ≤ length links.old }
         requires unlinked { Unlinked links.old }
+        requires paired { Paired net.arcs.now links.old ups.old }
         ensures net { result.net ≡ net.entry }
         ensures held { result.potentials.ghost_name ≡ potentials.entry.ghost_name }
         ensures linked { result.links.ghost_name ≡ links.entry.ghost_name }
+        ensures row { result.ups.ghost_name ≡ ups.entry.ghost_name }
         ensures begun { Begun W.ops result }
     {
         blank(potentials);
@@ -43,6 +48,7 @@ impl<'a, W: Worth> Search<'a, W> {
             net,
             potentials,
             links,
+            ups,
         }
     }
 
@@ -51,11 +57,14 @@ impl<'a, W: Worth> Search<'a, W> {
         net: Residual<'a>,
         potentials: &'a mut [W],
         links: &'a mut [Option<Step>],
+        ups: &'a mut [usize],
     ) -> Search<'a, W>
-        requires { net.nodes ≤ length links.old }
+        requires long { net.nodes ≤ length links.old }
+        requires paired { Paired net.arcs.now links.old ups.old }
         ensures net { result.net ≡ net.entry }
         ensures held { result.potentials.ghost_name ≡ potentials.entry.ghost_name }
         ensures linked { result.links.ghost_name ≡ links.entry.ghost_name }
+        ensures row { result.ups.ghost_name ≡ ups.entry.ghost_name }
         ensures potentials { result.potentials.now ≡ potentials.old }
         ensures links { result.links.now ≡ links.old }
     {
@@ -63,6 +72,7 @@ impl<'a, W: Worth> Search<'a, W> {
             net,
             potentials,
             links,
+            ups,
         }
     }
 
@@ -104,6 +114,65 @@ impl<'a, W: Worth> Search<'a, W> {
         there.is_less(offered).then_some(offered)
     }
 
+    // Whether the way from a node up along the links passes `goal`.
+    fn passes(&self, from: usize, goal: usize) -> bool
+        requires rooted { Rooted self.now.net.arcs.now self.now.links.now from }
+        requires inside { goal < length self.now.links.now }
+        ensures { Told self.now.net.arcs.now self.now.links.now from goal result }
+    {
+        let mut node = from;
+        // a way up is shorter than the rows
+        for _k in 0..self.ups.len() {
+            if node == goal {
+                return true;
+            }
+            let Some(&up) = self.ups.get(node) else {
+                return false;
+            };
+            node = up;
+        }
+        false
+    }
+
+    // A step along arc i that can be taken and offers more to its head than there is, and what it offers, if either does.
+    // One sum tells of both.
+    fn rising(&self, i: usize) -> Option<(Step, W)>
+        requires known { i < length self.now.net.arcs.now }
+        requires growing { Growing W.ops 1000000 self.now }
+        ensures { RisesAlong W.ops self.now i result }
+    {
+        let arc = self.net.arc(i);
+        let here = self.potentials[arc.from as usize];
+        let there = self.potentials[arc.to as usize];
+        let unit = self.net.gain::<W>(Step::Forward(i));
+        let up = here.plus(unit);
+        if arc.flow < arc.capacity && there.is_less(up) {
+            return Some((Step::Forward(i), up));
+        }
+        if 0 < arc.flow && up.is_less(there) {
+            return Some((Step::Backward(i), there.minus(unit)));
+        }
+        None
+    }
+
+    // Raises the potential at a step's head to what the step offers: it rose,
+    // or else the step closes a cycle worth more than none.
+    fn raise(&mut self, step: Step, offered: W) -> ControlFlow<Step, bool>
+        requires growing { Growing W.ops 1000000 self.old }
+        requires offers { Offers W.ops self.old step (Some offered) }
+        ensures same { Same self.old self.new }
+        ensures relaxed { Relaxes W.ops self.old self.new step result }
+    {
+        let from = self.net.tail(step);
+        let to = self.net.head(step);
+        if self.passes(from, to) {
+            return ControlFlow::Break(step);
+        }
+        self.potentials[to] = offered;
+        set_link(self.links, self.ups, to, step, from);
+        ControlFlow::Continue(true)
+    }
+
     // Raises the potential at a step's head to what the step offers, if that is more: whether it rose,
     // or else the step, where it closes a cycle worth more than none.
     fn relax(&mut self, step: Step) -> ControlFlow<Step, bool>
@@ -111,17 +180,10 @@ impl<'a, W: Worth> Search<'a, W> {
         ensures same { Same self.old self.new }
         ensures relaxed { Relaxes W.ops self.old self.new step result }
     {
-        let Some(offered) = self.offer(step) else {
-            return ControlFlow::Continue(false);
-        };
-        let from = self.net.tail(step);
-        let to = self.net.head(step);
-        if self.links().passes(from, to) {
-            return ControlFlow::Break(step);
+        match self.offer(step) {
+            None => ControlFlow::Continue(false),
+            Some(offered) => self.raise(step, offered),
         }
-        self.potentials[to] = offered;
-        self.links[to] = Some(step);
-        ControlFlow::Continue(true)
     }
 
     // Relaxes each step once, forward and backward along each arc in turn: whether some potential rose,
@@ -142,18 +204,19 @@ impl<'a, W: Worth> Search<'a, W> {
         ControlFlow::Continue(moved)
     }
 
-    // Relaxes the steps along each arc from number `from` on: whether some potential rose, or else a step that closes a cycle
-    // worth more than none.
-    pub(crate) fn pass(&mut self, from: usize) -> ControlFlow<Step, bool>
+    // Relaxes a step along each arc from place `from` on, in their order or with the order turned round: whether some potential rose,
+    // or else a step that closes a cycle worth more than none.
+    pub(crate) fn pass(&mut self, from: usize, turned: bool) -> ControlFlow<Step, bool>
         requires start { from ≤ length self.old.net.arcs.now }
         requires growing { Growing W.ops 999000 self.old }
         ensures same { Same self.old self.new }
         ensures passed { PassesTo W.ops self.old self.new result }
     {
         let mut moved = false;
-        for i in from..self.net.arcs.len() {
-            for step in both_ways(i) {
-                moved |= self.relax(step)?;
+        let n = self.net.arcs.len();
+        for k in from..n {
+            if let Some((step, offered)) = self.rising(turn(k, n, turned)) {
+                moved |= self.raise(step, offered)?;
             }
         }
         ControlFlow::Continue(moved)
@@ -177,6 +240,25 @@ impl<'a, W: Worth> Search<'a, W> {
     }
 }
 
+// Sets the link of a node and the node that it starts from. Both are set in one call, since each search has them agree.
+fn set_link(links: &mut [Option<Step>], ups: &mut [usize], node: usize, step: Step, from: usize)
+    requires link { node < length links.old }
+    requires up { node < length ups.old }
+    ensures links { links.new ≡ slice_set links.old node (Some step) }
+    ensures ups { ups.new ≡ slice_set ups.old node from }
+{
+    links[node] = Some(step);
+    ups[node] = from;
+}
+
+// A place among n arcs, or with their order turned round the place that it is from the end.
+pub(crate) fn turn(place: usize, n: usize, turned: bool) -> usize
+    requires { place < n }
+    ensures { result < n }
+{
+    if turned { n - 1 - place } else { place }
+}
+
 // The two steps along an arc.
 fn both_ways(i: usize) -> [Step; 2]
     ensures { result ≡ Step.Forward i ∷ Step.Backward i ∷ [] }
@@ -197,4 +279,12 @@ pub(crate) fn no_links() -> [Option<Step>; 272]
     ensures unlinked { Unlinked result }
 {
     [None; 272]
+}
+
+// For each node, that it has no link.
+pub(crate) fn no_ups() -> [usize; 272]
+    ensures long { length result ≡ 272 }
+    ensures none { (v : ℕ) → v < 272 → slice_index_or result v 0 ≡ 272 }
+{
+    [272; 272]
 }

@@ -1,6 +1,7 @@
-use Rattle.std.proofs.Common.{arith, ◌∙◌, subst₂}
+use Rattle.std.proofs.Common.{ap, length, arith, sym, ◌∙◌, subst, subst₂}
 use Rattle.std.specs.declared.ops.ControlFlow.TheVariants.{Continue, Break}
 use Rattle.flow.specs.Groups.{kind}
+use Rattle.search.specs.Links.{Paired}
 use Rattle.search.specs.Passes.{Passed}
 use Rattle.search.proofs.Quickly.{run_first, run_moved, run_taken, run_add}
 use Rattle.search.proofs.quick.climb_quickly.Goals as goal
@@ -8,7 +9,7 @@ use Rattle.search.proofs.quick.climb_quickly.Goals.{in-Break, in-Continue+else-n
 
 pub loop-k-init : goal.loop-k-init
 loop-k-init g c = (
-  run_first (kind g.N.W.Worth.ops g.met.N.W.Worth.lawful) (g.N.Network.net c.args.net.now) (g.met.N.Network.sound c.args.net.now) c.read_arcs.new.table c.read_arcs.ensures c.blank.new.work (c.blank.auto.work ∙ c.requires) c.blank.ensures c.no_links-links.result c.no_links-links.ensures.long c.no_links-links.ensures.unlinked c.none-sum.result c.none-sum.ensures,
+  run_first (kind g.N.W.Worth.ops g.met.N.W.Worth.lawful) (g.N.Network.net c.args.net.now) (g.met.N.Network.sound c.args.net.now) c.read_arcs.new.table c.read_arcs.ensures c.blank.new.work (c.blank.auto.work ∙ c.requires) c.blank.ensures c.no_links-links.result c.no_links-links.ensures.long c.no_links-links.ensures.unlinked c.no_ups-ups.result c.no_ups-ups.ensures.long c.no_ups-ups.ensures.none c.none-sum.result c.none-sum.ensures,
   g.met.N.Improvable.itself c.args.net.now,
 )
 
@@ -22,12 +23,15 @@ loop-k-preserved g c =
     let K = kind o g.met.N.W.Worth.lawful in
     elim c.match-pass.branch [
       | in-Break w ↦
-          let p = subst₂ (λ n l. Passed o n l c.loop-k.potentials c.pass.new.potentials c.pass.new.links (Break w.in-Break.closing)) r.forest.potentials_long (c.as_slice.ensures ∙ r.read) w.in-Break.ensures in
-          rw (w.net-is, w.table-is, w.links-is, w.sum-is, w.from-is) (
-            run_taken K r p.0 (g.N.Network.net w.take-rise.new.net) (g.met.N.Network.sound w.take-rise.new.net) w.in-Break.closing p.1 w.take-rise.ensures.rises w.take-rise.ensures.read w.take-rise.ensures.cut w.plus-sum.ensures w.arc_of-from.ensures (omega arith),
+          let p = subst₂ (λ n l. Passed o n l c.loop-k.potentials c.pass.new.potentials c.pass.new.links (Break w.in-Break.closing)) r.forest.potentials_long (c.as_slice.ensures ∙ r.read) w.in-Break.ensures.passed in
+          rw (w.net-is, w.table-is, w.links-is, w.ups-is, w.sum-is, w.from-is) (
+            run_taken K r p.0 (g.N.Network.net w.take-rise.new.net) (g.met.N.Network.sound w.take-rise.new.net) w.in-Break.closing p.1 w.take-rise.ensures.rises w.take-rise.ensures.read w.take-rise.ensures.cut w.take-rise.ensures.paired w.plus-sum.ensures (omega (arith, w.turn-from.ensures, w.len.ensures.count, ap length r.read)) (omega arith),
             g.met.N.Improvable.onward _ _ _ c.loop-k.invariant.1 w.take-rise.ensures.kept,
           )
       | in-Continue+else-not-moved w ↦
-          let p = subst₂ (λ n l. Passed o n l c.loop-k.potentials c.pass.new.potentials c.pass.new.links (Continue w.in-Continue.moved)) r.forest.potentials_long (c.as_slice.ensures ∙ r.read) w.in-Continue.ensures in
-          rw (w.net-is, w.table-is, w.links-is, w.sum-is, w.from-is) (run_moved K r p (omega arith), c.loop-k.invariant.1)
+          let p = subst₂ (λ n l. Passed o n l c.loop-k.potentials c.pass.new.potentials c.pass.new.links (Continue w.in-Continue.moved)) r.forest.potentials_long (c.as_slice.ensures ∙ r.read) w.in-Continue.ensures.passed in
+          rw (w.net-is, w.table-is, w.links-is, w.ups-is, w.sum-is, w.from-is) (run_moved K r p (subst (λ l. Paired l c.pass.new.links c.pass.new.ups) c.as_slice.ensures w.in-Continue.ensures.paired) (omega arith), c.loop-k.invariant.1)
     ]
+
+pub pass-requires-clause-paired : goal.pass-requires-clause-paired
+pass-requires-clause-paired g c = subst (λ l. Paired l c.loop-k.links c.loop-k.ups) (sym c.as_slice.ensures) c.loop-k.invariant.0.paired

@@ -1,9 +1,9 @@
 """Times `clear`, and `check` on what it prints, on sheets of full size, against LEMON's network simplex and glpsol on the same networks.
 
-usage: python3 bench/full/compare.py [SEEDS] [RUNS]
+usage: python3 bench/full/compare.py [SHEETS] [RUNS]
 
 It wants g++, LEMON and glpsol (Debian: g++, liblemon-dev, glpk-utils) and the programs of tools/programs in bin/. All worths have to agree: it stops where they
-do not. Times are of whole commands, the best of RUNS (5) on each of SEEDS (20) sheets by each of the two kinds of worth.
+do not. Times are of whole commands, the best of RUNS (5) on each of SHEETS (20) sheets by each of the two kinds of worth.
 """
 import os
 import re
@@ -51,17 +51,17 @@ def by_simplex(folder, nodes, arcs, parts, runs):
     return spent, found
 
 
-def one(folder, seed, parts, runs):
+def one(folder, number, parts, runs):
     """The times on one sheet; its worths by all agree."""
-    sheet = sheets.sheet(seed, parts)
+    sheet = sheets.sheet(number, parts)
     _, nodes, arcs = network.arcs_of(sheet)
     rows = [f"{parts} {nodes} {len(arcs)}"] + ["%d %d %d %d %d" % arc for arc in arcs]
     simplex, answer = timed([os.path.join(folder, "lemon")], "\n".join(rows) + "\n", runs)
     clear, record = timed([os.path.join(BIN, "clear")], sheet, runs)
     check, passed = timed([os.path.join(BIN, "check")], record, runs)
     dense, found = by_simplex(folder, nodes, arcs, parts, runs)
-    assert passed.startswith("passed\n"), (seed, parts)
-    assert worth_of(passed) == worth_of(answer) == found, (seed, parts, worth_of(passed), worth_of(answer), found)
+    assert passed.startswith("passed\n"), (number, parts)
+    assert worth_of(passed) == worth_of(answer) == found, (number, parts, worth_of(passed), worth_of(answer), found)
     return {"clear": clear, "check": check, "LEMON": simplex, "glpsol": dense}
 
 
@@ -82,13 +82,13 @@ def table(kind, rows):
 
 
 def main():
-    seeds = int(sys.argv[1]) if len(sys.argv) > 1 else 20
+    count = int(sys.argv[1]) if len(sys.argv) > 1 else 20
     runs = int(sys.argv[2]) if len(sys.argv) > 2 else 5
     with tempfile.TemporaryDirectory() as folder:
         source = os.path.join(HERE, "lemon.cc")
         subprocess.run(["g++", "-O3", "-o", os.path.join(folder, "lemon"), source, "-llemon"], check=True)
         for parts, kind in ((1, "money"), (2, "money then weeks")):
-            table(kind, [one(folder, seed, parts, runs) for seed in range(seeds)])
+            table(kind, [one(folder, number, parts, runs) for number in range(count)])
     print("\nall worths agree")
 
 

@@ -1,4 +1,4 @@
-"""Sheets of full size: 16 items, 32 members, 128 holdings, 64 offers, 256 lines, the same for the same seed."""
+"""Sheets of full size: 16 items, 32 members, 128 holdings, 64 offers, 256 lines, the same for the same number."""
 import random
 
 ITEMS, MEMBERS, HOLDINGS, OFFERS, LINES = 16, 32, 128, 64, 256
@@ -36,9 +36,9 @@ def offer_of(rng, member, own, worths):
     return member, rng.randint(1, 1000), give, get
 
 
-def sheet(seed, parts):
+def sheet(number, parts):
     """The text of a sheet by a kind with one part, money, or with two, money then weeks."""
-    rng = random.Random(seed)
+    rng = random.Random(number)
     worths = [0] + [rng.randint(1_000, 500_000) for _ in range(ITEMS - 1)]
     held = holdings_of(rng)
     rows = [f"K {parts}", "money"] + ["weeks"] * (parts - 1)

@@ -1,24 +1,19 @@
--- The kind of a record, and the number of its parts.
+-- The kind of a record, read by the number of its parts.
 use Rattle.std.specs.Prelude.{◌≡◌, ℕ, ◌≢◌, Result, MatchResult}
 use Rattle.tables.specs.declared.refusal.Refusal.{Refusal}
 use Rattle.tables.specs.declared.refusal.Refusal.TheVariants.{Layout}
-use Rattle.layout.specs.Records.{Kind, by_money, by_money_then_weeks, Contents}
+use Rattle.layout.specs.Records.{Kind, by_money, by_money_then_weeks, Contents, parts}
 use Rattle.reading.specs.declared.kind.Kind.{Kind as Told}
 use Rattle.reading.specs.declared.kind.Kind.TheVariants.{Money, MoneyThenWeeks}
-
--- how many parts a kind has
-abbrev pub count_of : Told → ℕ
-count_of Money = 1
-count_of MoneyThenWeeks = 2
-
--- the kind with so many parts; or no kind has so many, and the text departs from the layout
-abbrev pub WithParts : ℕ → Result Told Refusal → Type 0
-WithParts n r = MatchResult r (λ k. count_of k ≡ n) (λ e. (e ≡ Layout) × ((k : Told) → count_of k ≢ n))
 
 -- the kind as the layout has it
 abbrev pub kind : Told → Kind
 kind Money = by_money
 kind MoneyThenWeeks = by_money_then_weeks
+
+-- the kind with so many parts; or no kind has so many, and the text departs from the layout
+abbrev pub WithParts : ℕ → Result Told Refusal → Type 0
+WithParts n r = MatchResult r (λ k. parts (kind k) ≡ n) (λ e. (e ≡ Layout) × ((k : Told) → parts (kind k) ≢ n))
 
 -- the contents with this kind
 abbrev pub of_kind : Told → Contents → Contents

@@ -1,5 +1,6 @@
 ghost use Rattle.std.specs.Prelude.{◌≡◌};
-ghost use Rattle.reading.specs.Kinds.{WithParts, count_of};
+ghost use Rattle.layout.specs.Records.{parts};
+ghost use Rattle.reading.specs.Kinds.{WithParts, kind as kind_as};
 
 use tables::refusal::Refusal;
 
@@ -13,7 +14,7 @@ pub enum Kind {
 impl Kind {
     // How many parts the kind has.
     pub fn parts(self) -> usize
-        ensures { result ≡ count_of self }
+        ensures { result ≡ parts (kind_as self) }
     {
         self as usize
     }

@@ -1,8 +1,8 @@
 ghost use Rattle.std.specs.Prelude.{List, ◌∷◌, MatchResult};
 ghost use Rattle.text.specs.declared.section.Section.TheVariants.{Kinds};
 ghost use Rattle.layout.specs.Layout.{Slot, head, word as the_word};
-ghost use Rattle.layout.specs.Records.{Contents};
-ghost use Rattle.reading.specs.Kinds.{count_of, of_kind};
+ghost use Rattle.layout.specs.Records.{Contents, parts};
+ghost use Rattle.reading.specs.Kinds.{kind as kind_as, of_kind};
 ghost use Rattle.reading.specs.Reading.{Onward, Stops, LineRead};
 
 use super::kind::Kind;
@@ -14,7 +14,7 @@ use text::section::Section;
 
 // The kind, by the count of its parts in the head of K.
 fn next_kind(reader: &mut Reader<'_>) -> Result<Kind, Fault>
-    ensures { (x : Contents) → LineRead (head Kinds) count_of x reader.old reader.new result }
+    ensures { (x : Contents) → LineRead (head Kinds) (λ k. parts (kind_as k)) x reader.old reader.new result }
 {
     next_head(reader, Section::Kinds)?.test(|parts| Kind::try_from(parts))
 }

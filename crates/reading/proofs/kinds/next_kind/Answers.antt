@@ -2,7 +2,8 @@ use Rattle.std.proofs.Common.{refl, rules}
 use Rattle.std.proofs.lemmas.Result.{err_from_is_err_and}
 use Rattle.text.specs.declared.section.Section.TheVariants.{Kinds}
 use Rattle.layout.specs.Layout.{head}
-use Rattle.reading.specs.Kinds.{count_of, WithParts}
+use Rattle.layout.specs.Records.{parts}
+use Rattle.reading.specs.Kinds.{kind as kind_as, WithParts}
 use Rattle.reading.specs.Reading.{IsHead}
 use Rattle.reading.proofs.Steps.{missed, judged}
 use Rattle.reading.proofs.Worded.{kind_judged}
@@ -18,4 +19,4 @@ returns c x =
     let n = c.in_ok-next_head.ensures in
     let t = c.test.ensures in
     let h : WithParts c.in_ok-next_head.field-0.said t.0 = search rules in
-    judged (head Kinds) x (IsHead Kinds) count_of n.1 _ n.0 t.0 (kind_judged x _ t.0 h) _ t.2
+    judged (head Kinds) x (IsHead Kinds) (λ k. parts (kind_as k)) n.1 _ n.0 t.0 (kind_judged x _ t.0 h) _ t.2

@@ -2,8 +2,9 @@ use Rattle.std.proofs.Common.{◌≡◌, true, false, [], ◌∷◌, codes, refl
 use denote.Enum.Bare.{sameb}
 use Rattle.text.specs.declared.section.Section.TheVariants.{Kinds}
 use Rattle.layout.specs.Layout.{head, spell}
+use Rattle.layout.specs.Records.{parts}
 use Rattle.layout.specs.Render.{kind_section}
-use Rattle.reading.specs.Kinds.{count_of, kind as kind_as}
+use Rattle.reading.specs.Kinds.{kind as kind_as}
 use Rattle.reading.specs.contracts.kind.Kind.{the_type}
 use Rattle.reading.specs.declared.kind.Kind.{Kind}
 use Rattle.reading.specs.declared.kind.Kind.TheVariants.{Money, MoneyThenWeeks}
@@ -11,11 +12,11 @@ use Rattle.record.proofs.Adding.{adds_same, adds_then}
 use Rattle.record.proofs.file.draft.Draft.kind.Goals as goal
 
 -- a kind that is not money then weeks has one word, and that one has two
-one_word : (k : Kind) → false ≡ sameb the_type k MoneyThenWeeks → spell (head Kinds) (count_of k) ∷ codes "money" ∷ [] ≡ kind_section (kind_as k)
+one_word : (k : Kind) → false ≡ sameb the_type k MoneyThenWeeks → spell (head Kinds) (parts (kind_as k)) ∷ codes "money" ∷ [] ≡ kind_section (kind_as k)
 one_word Money e = refl
 one_word MoneyThenWeeks e = cc
 
-two_words : (k : Kind) → true ≡ sameb the_type k MoneyThenWeeks → spell (head Kinds) (count_of k) ∷ codes "money" ∷ codes "weeks" ∷ [] ≡ kind_section (kind_as k)
+two_words : (k : Kind) → true ≡ sameb the_type k MoneyThenWeeks → spell (head Kinds) (parts (kind_as k)) ∷ codes "money" ∷ codes "weeks" ∷ [] ≡ kind_section (kind_as k)
 two_words Money e = cc
 two_words MoneyThenWeeks e = refl
 

@@ -204,14 +204,14 @@ module _ {W : Type 0} (G : Kind W) where
       pub run_moved : {us' : List ℕ} → Paired ls ks' us' → {k' : ℕ} → k' ≡ k + 1 → Running G.ops s t ls xs' ks' us' sum 0 k'
       run_moved paired next = record { climb = r.climb; read = r.read; paired = paired; forest = w.forest; small = λ v. let q = w.sizes (896 * k) r.small v in omega arith; start = omega arith }
 
-      pub run_taken : (u : Net) → Sound u → {ms : List Arc} {js : List (Option Step)} {vs : List ℕ} {rise sum' : W} (step : Step) → Closing G.ops t.nodes t.arcs ks' step → Improves G.ops t u rise → ms ≡ u.arcs → Cut ms ks' js → Paired ms js vs → sum' ≡ G.ops.plus sum rise → {from' k' : ℕ} → from' < length t.arcs → k' ≡ k + 1 → Running G.ops s u ms xs' js vs sum' from' k'
-      run_taken u z {ms} {js} {rise} step closing i read cut paired sum-is from-in next = record {
+      pub run_taken : (u : Net) → Sound u → {ms : List Arc} {js : List (Option Step)} {vs : List ℕ} {rise sum' : W} (step : Step) → Closing G.ops t.nodes t.arcs ks' step → Improves G.ops t u rise → ms ≡ u.arcs → Cut ms ks' js → Paired ms js vs → sum' ≡ G.ops.plus sum rise → {from' k' : ℕ} → from' ≡ arc step → k' ≡ k + 1 → Running G.ops s u ms xs' js vs sum' from' k'
+      run_taken u z {ms} {js} {rise} step closing i read cut paired sum-is from-is next = record {
         climb = subst (λ x. Climb G.ops s x u) (sym sum-is) (more r.climb i);
         read = read;
         paired = paired;
         forest = subst (λ m. Forest G.ops m u.arcs xs' js) (sym i.nodes) (forest_cut G t.nodes t.arcs u.arcs xs' ks' js w.forest i.arcs (subst (λ m. SoundArcs m u.arcs) i.nodes z.each) (subst (λ l. Cut l ks' js) read cut));
         small = λ v. let q = w.sizes (896 * k) r.small v in omega arith;
-        start = let b = i.arcs.long in omega arith;
+        start = let a = closing.known in let b = i.arcs.long in omega arith;
       }
 
 pub run_add : {W : Type 0} {o : Ops W} (laws : Laws o) {s t u : Net} {sum rise : W} → Climb o s sum t → Sound s → Sound t → Sound u → Improves o t u rise → o.size sum + o.size rise ≤ 4194304

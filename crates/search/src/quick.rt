@@ -13,7 +13,7 @@ use super::improve::read_arcs;
 use super::links::Links;
 use super::residual::Residual;
 use super::shift::shift;
-use super::sweep::{Search, blank, no_links, no_ups, turn};
+use super::sweep::{Search, blank, no_links, no_ups};
 use flow::arc::Arc;
 use flow::step::Step;
 use network::improvable::Improvable;
@@ -69,7 +69,6 @@ fn pass<W: Worth>(
     links: &mut [Option<Step>],
     ups: &mut [usize],
     from: usize,
-    turned: bool,
 ) -> ControlFlow<Step, bool>
     requires start { from ≤ length net.arcs.now }
     requires paired { Paired net.arcs.now links.old ups.old }
@@ -78,7 +77,7 @@ fn pass<W: Worth>(
     ensures passed { Passed W.ops net.entry.nodes net.entry.arcs.now potentials.old potentials.new links.new result }
     ensures paired { Paired net.entry.arcs.now links.new ups.new }
 {
-    Search::resume(net, potentials, links, ups).pass(from, turned)
+    Search::resume(net, potentials, links, ups).pass(from)
 }
 
 // The cycle that a step closes.
@@ -155,25 +154,22 @@ pub(crate) fn climb_quickly<N: Improvable>(net: &mut N, potentials: &mut [N::W])
     blank(potentials);
     let mut sum = N::W::none();
     let mut from = 0;
-    // passes take turns in their order, so that what rises at one end soon reaches the other
-    let mut turned = false;
     for _k in 0..1000usize {
         let residual = Residual {
             nodes: potentials.len(),
             arcs: table.as_slice(),
         };
-        match pass(residual, potentials, &mut links, &mut ups, from, turned) {
+        match pass(residual, potentials, &mut links, &mut ups, from) {
             ControlFlow::Break(closing) => {
-                from = turn(arc_of(closing), table.len(), turned);
                 let rise = take(net, &mut table, &mut links, &mut ups, closing);
                 sum = sum.plus(rise);
+                from = arc_of(closing);
             }
             ControlFlow::Continue(moved) => {
                 if !moved && from == 0 {
                     return sum;
                 }
                 from = 0;
-                turned = !turned;
             }
         }
     }

@@ -204,18 +204,17 @@ impl<'a, W: Worth> Search<'a, W> {
         ControlFlow::Continue(moved)
     }
 
-    // Relaxes a step along each arc from place `from` on, in their order or with the order turned round: whether some potential rose,
-    // or else a step that closes a cycle worth more than none.
-    pub(crate) fn pass(&mut self, from: usize, turned: bool) -> ControlFlow<Step, bool>
+    // Relaxes a step along each arc from number `from` on: whether some potential rose, or else a step that closes a cycle
+    // worth more than none.
+    pub(crate) fn pass(&mut self, from: usize) -> ControlFlow<Step, bool>
         requires start { from ≤ length self.old.net.arcs.now }
         requires growing { Growing W.ops 999000 self.old }
         ensures same { Same self.old self.new }
         ensures passed { PassesTo W.ops self.old self.new result }
     {
         let mut moved = false;
-        let n = self.net.arcs.len();
-        for k in from..n {
-            if let Some((step, offered)) = self.rising(turn(k, n, turned)) {
+        for i in from..self.net.arcs.len() {
+            if let Some((step, offered)) = self.rising(i) {
                 moved |= self.raise(step, offered)?;
             }
         }
@@ -249,14 +248,6 @@ fn set_link(links: &mut [Option<Step>], ups: &mut [usize], node: usize, step: St
 {
     links[node] = Some(step);
     ups[node] = from;
-}
-
-// A place among n arcs, or with their order turned round the place that it is from the end.
-pub(crate) fn turn(place: usize, n: usize, turned: bool) -> usize
-    requires { place < n }
-    ensures { result < n }
-{
-    if turned { n - 1 - place } else { place }
 }
 
 // The two steps along an arc.

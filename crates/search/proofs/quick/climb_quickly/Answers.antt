@@ -1,4 +1,4 @@
-use Rattle.std.proofs.Common.{ap, length, arith, sym, ◌∙◌, subst, subst₂}
+use Rattle.std.proofs.Common.{arith, sym, ◌∙◌, subst, subst₂}
 use Rattle.std.specs.declared.ops.ControlFlow.TheVariants.{Continue, Break}
 use Rattle.flow.specs.Groups.{kind}
 use Rattle.search.specs.Links.{Paired}
@@ -25,7 +25,7 @@ loop-k-preserved g c =
       | in-Break w ↦
           let p = subst₂ (λ n l. Passed o n l c.loop-k.potentials c.pass.new.potentials c.pass.new.links (Break w.in-Break.closing)) r.forest.potentials_long (c.as_slice.ensures ∙ r.read) w.in-Break.ensures.passed in
           rw (w.net-is, w.table-is, w.links-is, w.ups-is, w.sum-is, w.from-is) (
-            run_taken K r p.0 (g.N.Network.net w.take-rise.new.net) (g.met.N.Network.sound w.take-rise.new.net) w.in-Break.closing p.1 w.take-rise.ensures.rises w.take-rise.ensures.read w.take-rise.ensures.cut w.take-rise.ensures.paired w.plus-sum.ensures (omega (arith, w.turn-from.ensures, w.len.ensures.count, ap length r.read)) (omega arith),
+            run_taken K r p.0 (g.N.Network.net w.take-rise.new.net) (g.met.N.Network.sound w.take-rise.new.net) w.in-Break.closing p.1 w.take-rise.ensures.rises w.take-rise.ensures.read w.take-rise.ensures.cut w.take-rise.ensures.paired w.plus-sum.ensures w.arc_of-from.ensures (omega arith),
             g.met.N.Improvable.onward _ _ _ c.loop-k.invariant.1 w.take-rise.ensures.kept,
           )
       | in-Continue+else-not-moved w ↦

@@ -1,5 +1,5 @@
 -- The numbers that a level is written with.
-use Rattle.std.specs.Prelude.{◌≡◌, ◌<◌, ◌≤◌, List, [], ◌∷◌, ℤ, Result, MatchResult}
+use Rattle.std.specs.Prelude.{◌≡◌, ◌<◌, ◌≤◌, List, [], ◌∷◌, ℤ, pos, Result, MatchResult}
 use Rattle.tables.specs.declared.refusal.Refusal.{Refusal}
 use Rattle.tables.specs.declared.refusal.Refusal.TheVariants.{Bounds}
 use Rattle.layout.specs.Records.{Kind, by_money, by_money_then_weeks, Contents, level_size}
@@ -9,6 +9,10 @@ use Rattle.reading.specs.declared.level.Level.{Level}
 abbrev pub numbers : Kind → Level → List ℤ
 numbers by_money l = l.cents ∷ []
 numbers by_money_then_weeks l = l.cents ∷ l.weeks ∷ []
+
+-- a level of a kind without weeks has none
+abbrev pub Flat : Kind → Level → Type 0
+Flat k l = k ≡ by_money → l.weeks ≡ pos 0
 
 -- the contents with these levels
 abbrev pub with_levels : Contents → List (List ℤ) → Contents

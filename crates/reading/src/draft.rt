@@ -1,6 +1,10 @@
 ghost use Rattle.std.specs.Prelude.{◌≡◌, length};
+ghost use Rattle.std.specs.List.{AllByRecursion};
+ghost use Rattle.std.proofs.Props.{props};
 ghost use Rattle.book.specs.Books.{line_count};
 ghost use Rattle.round.specs.Rounds.{book};
+ghost use Rattle.reading.specs.Kinds.{kind as kind_as};
+ghost use Rattle.reading.specs.Levels.{Flat};
 
 use super::kind::Kind;
 use super::level::Level;
@@ -25,4 +29,5 @@ pub(crate) struct Draft<'a> {
     pub(crate) units: Table<u32, 256>,
     pub(crate) levels: Table<Level, 272>,
     ghost counted: { length units ≡ line_count (book round).offers },
+    ghost flat: { AllByRecursion (Flat (kind_as kind)) levels } by { Prim.hlevel props },
 }

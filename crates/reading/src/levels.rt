@@ -1,10 +1,10 @@
-ghost use Rattle.std.specs.Prelude.{◌≡◌, nat_le};
+ghost use Rattle.std.specs.Prelude.{◌≡◌, IfOk, nat_le};
 ghost use Rattle.text.specs.Numbers.{signed};
 ghost use Rattle.text.specs.Rows.{SpellsRow};
 ghost use Rattle.layout.specs.Layout.{level as a_level};
 ghost use Rattle.layout.specs.Records.{by_money, by_money_then_weeks, Contents, parts, level_size};
 ghost use Rattle.reading.specs.Kinds.{kind as kind_as};
-ghost use Rattle.reading.specs.Levels.{numbers, LevelTested};
+ghost use Rattle.reading.specs.Levels.{numbers, Flat, LevelTested};
 ghost use Rattle.reading.specs.Reading.{ReadNext, LineRead};
 
 use super::kind::Kind;
@@ -21,7 +21,8 @@ use worth::weeks::Weeks;
 // The level of a row of one number. It is no closure, since of one that takes an array nothing is inferred.
 // Nor is it a `From<[i64; 1]> for Level`: a row does not say of which kind it is, and such a conversion would be open to every caller.
 fn in_money(row: [i64; 1]) -> Level
-    ensures { numbers by_money result ≡ row }
+    ensures written { numbers by_money result ≡ row }
+    ensures flat { Flat by_money result }
 {
     let [cents] = row;
     Level { cents, weeks: 0 }
@@ -64,7 +65,8 @@ impl Kind {
 
     // The numbers of the next line, one for each part of the kind.
     fn next_numbers(self, reader: &mut Reader<'_>) -> Result<Numbered<Level>, Fault>
-        ensures { ReadNext (λ bytes l. SpellsRow signed (parts (kind_as self)) bytes (numbers (kind_as self) l)) reader.old reader.new result }
+        ensures read { ReadNext (λ bytes l. SpellsRow signed (parts (kind_as self)) bytes (numbers (kind_as self) l)) reader.old reader.new result }
+        ensures flat { IfOk result (λ n. Flat (kind_as self) n.said) }
     {
         match self {
             Kind::Money => Ok(next_row(reader)?.map(in_money)),
@@ -74,7 +76,8 @@ impl Kind {
 
     // The next line under L, a level.
     pub(crate) fn next_level(self, reader: &mut Reader<'_>) -> Result<Level, Fault>
-        ensures { (x : Contents) → x.kind ≡ kind_as self → LineRead a_level (numbers (kind_as self)) x reader.old reader.new result }
+        ensures read { (x : Contents) → x.kind ≡ kind_as self → LineRead a_level (numbers (kind_as self)) x reader.old reader.new result }
+        ensures flat { IfOk result (Flat (kind_as self)) }
     {
         self.next_numbers(reader)?
             .test(|level| self.test_level(level))

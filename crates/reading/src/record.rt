@@ -1,8 +1,12 @@
 ghost use Rattle.std.specs.Prelude.{◌≡◌, length};
+ghost use Rattle.std.specs.List.{AllByRecursion};
+ghost use Rattle.std.proofs.Props.{props};
 ghost use Rattle.book.specs.Books.{line_count};
 ghost use Rattle.layout.specs.Records.{Valid};
 ghost use Rattle.round.specs.Rounds.{book};
 ghost use Rattle.reading.specs.Held.{held};
+ghost use Rattle.reading.specs.Kinds.{kind as kind_as};
+ghost use Rattle.reading.specs.Levels.{Flat};
 
 use super::kind::Kind;
 use super::level::Level;
@@ -22,4 +26,5 @@ pub struct Record {
     levels: Table<Level, 272>,
     ghost valid: { ∥ Valid (held kind (book round) units levels) ∥₁ },
     ghost counted: { length units ≡ line_count (book round).offers },
+    ghost flat: { AllByRecursion (Flat (kind_as kind)) levels } by { Prim.hlevel props },
 }

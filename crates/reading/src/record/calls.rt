@@ -1,10 +1,11 @@
 ghost use Rattle.std.specs.Prelude.{◌≡◌, map};
+ghost use Rattle.std.specs.List.{AllByRecursion};
 ghost use Rattle.layout.specs.Records.{book_of};
 ghost use Rattle.round.specs.Rounds.{book};
 ghost use Rattle.reading.specs.Contents.{contents};
 ghost use Rattle.reading.specs.Held.{units_in};
 ghost use Rattle.reading.specs.Kinds.{kind as kind_as};
-ghost use Rattle.reading.specs.Levels.{numbers};
+ghost use Rattle.reading.specs.Levels.{numbers, Flat};
 
 use super::super::kind::Kind;
 use super::super::level::Level;
@@ -35,7 +36,8 @@ impl Record {
 
     // The levels of the nodes, or none.
     pub fn levels(&self) -> &[Level]
-        ensures { map (numbers (contents self.now).kind) result.now ≡ (contents self.now).levels }
+        ensures written { map (numbers (contents self.now).kind) result.now ≡ (contents self.now).levels }
+        ensures flat { AllByRecursion (Flat (contents self.now).kind) result.now }
     {
         self.levels.as_slice()
     }

@@ -33,7 +33,7 @@ returns-then-not-fits g c v k =
     let drawn = c.in_ok-net.ensures in
     let net = drawn.outcome.0 in
     let allowed = allowed_from (book_of x) (allotted x) v.sound (not_first drawn.refused) (subst Circulates net (c.is_circulation.ensures.0 c.if-not-is_circulation.false)) in
-    let e = levels_read g.met.W.Levelled.told k c.levels.result.now c.levels.ensures _ (c.as_slice.ensures ∙ c.worths-worths.ensures) in
+    let e = levels_read g.met.W.Levelled.told k c.levels.result.now c.levels.ensures.written _ (c.as_slice.ensures ∙ c.worths-worths.ensures) in
     let same : LevelsFit x.kind _ x.levels ≡ LevelsFit g.W.Levelled.sort (record_net c.in_ok-net.net) _ = (λ i. LevelsFit (k i) (sym net i) (sym e i)) in
     record { refused = next (λ not. not allowed) (here (λ f. not_from_Decides _ c.fits.ensures c.if-not-fits.true ((g.met.W.Levelled.told.fitting _ _).1 (subst (λ (T : Type 0). T) same f)))); outcome = tt }
 
@@ -44,7 +44,7 @@ returns g c v k =
     let net = drawn.outcome.0 in
     let b = drawn.outcome.1 in
     let allowed = allowed_from (book_of x) (allotted x) v.sound (not_first drawn.refused) (subst Circulates net (c.is_circulation.ensures.0 c.if-not-is_circulation.false)) in
-    let e = levels_read g.met.W.Levelled.told k c.levels.result.now c.levels.ensures _ (c.as_slice.ensures ∙ c.worths-worths.ensures) in
+    let e = levels_read g.met.W.Levelled.told k c.levels.result.now c.levels.ensures.written _ (c.as_slice.ensures ∙ c.worths-worths.ensures) in
     let same : LevelsFit g.W.Levelled.sort (record_net c.in_ok-net.net) _ ≡ LevelsFit x.kind _ x.levels = (λ i. LevelsFit (sym k i) (net i) (e i)) in
     let fits = subst (λ (T : Type 0). T) same ((g.met.W.Levelled.told.fitting _ _).0 (c.fits.ensures.0 c.if-not-fits.false)) in
     record {
@@ -58,4 +58,4 @@ returns g c v k =
     }
 
 pub worths-worths-requires : goal.worths-worths-requires
-worths-worths-requires g c = (c.requires, levels_few c.args.read c.levels.result.now c.levels.ensures)
+worths-worths-requires g c = (c.requires, levels_few c.args.read c.levels.result.now c.levels.ensures.written)

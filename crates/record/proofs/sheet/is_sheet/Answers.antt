@@ -13,7 +13,7 @@ pub returns-then-are_zero : goal.returns-then-are_zero
 returns-then-are_zero c =
     let x = contents c.args.read.now in
     let ls = c.levels.result.now in
-    let many : length ls ≡ length x.levels = sym (length-map ls (numbers x.kind)) ∙ ap length c.levels.ensures in
+    let many : length ls ≡ length x.levels = sym (length-map ls (numbers x.kind)) ∙ ap length c.levels.ensures.written in
     let offers = ap (λ b. b.offers) c.terms.ensures in
     elim c.if-is_empty.branch [
       | then-is_empty w ↦ (
@@ -31,7 +31,7 @@ pub returns-else-are_zero : goal.returns-else-are_zero
 returns-else-are_zero c =
     let x = contents c.args.read.now in
     let ls = c.levels.result.now in
-    let many : length ls ≡ length x.levels = sym (length-map ls (numbers x.kind)) ∙ ap length c.levels.ensures in (
+    let many : length ls ≡ length x.levels = sym (length-map ls (numbers x.kind)) ∙ ap length c.levels.ensures.written in (
       λ e. absurd (both_ways _ c.if-are_zero.false e),
       λ sheet. elim c.if-is_empty.branch [
         | then-is_empty w ↦ absurd (not_from_Decides _ w.are_zero.ensures (sym w.value-is ∙ c.if-are_zero.false) (subst (AllByRecursion (λ u. u ≡ 0)) (sym w.units.ensures) (row_zero x.offers sheet.unfilled)))

@@ -66,7 +66,7 @@ after-lines c =
 pub invariant_of-self-2 : goal.invariant_of-self-2
 invariant_of-self-2 c =
     let d = c.args.self.now in
-    record { counted = offer_counted d.kind d.levels (book d.round) (book c.add_offer.new.round) d.units c.extend.new.self d.reader c.next_lines-2.new.reader (after-lines c) }
+    record { counted = offer_counted d.kind d.levels (book d.round) (book c.add_offer.new.round) d.units c.extend.new.self d.reader c.next_lines-2.new.reader (after-lines c); flat = d.flat }
 
 pub returns : goal.returns
 returns c =

@@ -9,4 +9,4 @@ invariant_of-result c =
     let text = c.args.text.now in
     let d = c.read_section-4.new.self in
     let reads : Reads text (so_far d) = search rules in
-    record { valid = ∣ ((reads_records text (so_far d)).0 reads).1 ∣₁; counted = d.counted }
+    record { valid = ∣ ((reads_records text (so_far d)).0 reads).1 ∣₁; counted = d.counted; flat = d.flat }

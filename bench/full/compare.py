@@ -44,9 +44,11 @@ def by_simplex(folder, nodes, arcs, parts, runs):
         path, out = os.path.join(folder, "x.lp"), os.path.join(folder, "x.out")
         with open(path, "w") as file:
             file.write(lp.program(nodes, arcs, goal, found[0] if found else None))
-        took, _ = timed(["glpsol", "--lp", path, "--dual", "-o", out], "", runs)
+        took, _ = timed(["glpsol", "--lp", path, "-o", out], "", runs)
         with open(out) as file:
-            found.append(round(float(re.search(r"Objective:\s+goal = (\S+)", file.read()).group(1))))
+            answer = file.read()
+        assert re.search(r"Status:\s+OPTIMAL", answer)
+        found.append(round(float(re.search(r"Objective:\s+goal = (\S+)", answer).group(1))))
         spent += took
     return spent, found
 

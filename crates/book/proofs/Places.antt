@@ -4,8 +4,8 @@ use Rattle.std.proofs.lemmas.List.{get_or_append_left, get_or-append-add}
 use Rattle.flow.specs.Arcs.{blank, arc_at}
 use Rattle.flow.specs.declared.arc.Arc.{Arc}
 use Rattle.book.specs.Rows.{map_with}
-use Rattle.book.specs.Books.{Offer, no_line, no_holding, no_offer}
-use Rattle.book.specs.Arcs.{OfferFlows, holding_arc, holding_arcs, give_arc, own_arc, get_arc, offer_arcs, offers_arcs, filling, offer_at, inside, arcs_before}
+use Rattle.book.specs.Books.{Offer, no_line, no_holding, no_offer, offer_at}
+use Rattle.book.specs.Arcs.{OfferFlows, holding_arc, holding_arcs, give_arc, own_arc, get_arc, offer_arcs, offers_arcs, filling, inside, arcs_before}
 use Rattle.book.specs.Agreement.{ArcsArePlaced, FillingKeepsUnits}
 use Rattle.book.specs.declared.holding.Holding.{Holding}
 use Rattle.book.specs.declared.line.Line.{Line}

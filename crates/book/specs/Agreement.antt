@@ -10,9 +10,9 @@ use Rattle.flow.specs.Optimality.{Best, Potentials}
 use Rattle.flow.specs.Arcs.{arc_at}
 use Rattle.network.specs.Networks.{Net, flow_in, graph, value}
 use Rattle.network.specs.Networks as networks
-use Rattle.book.specs.Books.{Book, Sound, line_count, no_line, no_holding}
+use Rattle.book.specs.Books.{Book, Sound, line_count, no_line, no_holding, offer_at}
 use Rattle.book.specs.Allotments.{Allotment, Allowed, Alike, payoffs, weeks_got}
-use Rattle.book.specs.Arcs.{Flows, holding_arc, give_arc, own_arc, get_arc, laid, arcs_of, net_of, flowing, NetworkOf, filled, offer_at, inside, give_at, own_at, get_at, allotment_of}
+use Rattle.book.specs.Arcs.{Flows, holding_arc, give_arc, own_arc, get_arc, laid, arcs_of, net_of, flowing, NetworkOf, filled, inside, give_at, own_at, get_at, allotment_of}
 
 -- there is an arc for each holding, each line and each offer; where it stands, and what it is
 pub record Placed (b : Book) (f : Flows) : Type 0 where

@@ -1,10 +1,10 @@
 -- The network of a book, and the flows that an allotment fills it with.
-use Rattle.std.specs.Prelude.{◌≡◌, ℕ, zero, suc, ◌+◌, ◌*◌, cond, List, [], ◌∷◌, ◌++◌, length, get_or, pos, neg_ℤ, Some, None, Option, ◌==◌, slice_index_or}
+use Rattle.std.specs.Prelude.{◌≡◌, ℕ, zero, suc, ◌+◌, ◌*◌, cond, List, [], ◌∷◌, ◌++◌, length, get_or, pos, neg_ℤ, Some, None, Option, ◌==◌}
 use Rattle.flow.specs.declared.arc.Arc.{Arc}
 use Rattle.flow.specs.Arcs.{SameArcs, with_flow}
 use Rattle.network.specs.Networks.{Net}
 use Rattle.book.specs.Rows.{map_with}
-use Rattle.book.specs.Books.{Book, Offer, spot_of, no_holding, no_offer}
+use Rattle.book.specs.Books.{Book, Offer, spot_of, no_holding, no_offer, offer_at}
 use Rattle.book.specs.Allotments.{Allotment, all_of, given_by}
 use Rattle.book.specs.declared.line.Line.{Line}
 use Rattle.book.specs.declared.holding.Holding.{Holding}
@@ -103,10 +103,6 @@ filling b a = record { held = held_flows b.holdings b.offers a; offers = offer_f
 -- the network filled by an allotment
 abbrev pub filled : Book → Allotment → Net
 filled b a = record { nodes = nodes b; arcs = laid b (filling b a) }
-
--- offer k of a book
-abbrev pub offer_at : Book → ℕ → Offer
-offer_at b k = slice_index_or b.offers k no_offer
 
 -- the node of offer k's inside; its outside is the next
 abbrev pub inside : Book → ℕ → ℕ

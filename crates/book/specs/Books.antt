@@ -32,6 +32,10 @@ no_holding = record { member = 0; item = 0; units = 0 }
 abbrev pub no_offer : Offer
 no_offer = record { member = 0; limit = 0; give = []; get = [] }
 
+-- offer k of a book
+abbrev pub offer_at : Book → ℕ → Offer
+offer_at b k = slice_index_or b.offers k no_offer
+
 -- the holding is member m's of item i
 abbrev pub is_of : Holding → ℕ → ℕ → Bool
 is_of h m i = h.member == m && h.item == i

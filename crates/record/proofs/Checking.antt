@@ -19,7 +19,7 @@ use Rattle.network.specs.Networks.{Net, flow_in, graph, value}
 use Rattle.network.proofs.Circulations.{circulation, circulates}
 use Rattle.book.specs.Allotments.{Units, Allotment, Allowed, Alike, AlikeOn, payoff, weeks_of}
 use Rattle.book.specs.Arcs.{net_of, filling, filled}
-use Rattle.book.specs.Books.{Book, Offer, Sound}
+use Rattle.book.specs.Books.{Book, Offer, Sound, offer_at}
 use Rattle.book.specs.Rows.{map_with}
 use Rattle.book.proofs.Best.{allowed_is_circulation_lem}
 use Rattle.book.proofs.Filled.{sum_with_alike}
@@ -32,7 +32,7 @@ use Rattle.reading.specs.Contents.{contents}
 use Rattle.reading.specs.Levels.{numbers}
 use Rattle.reading.specs.declared.level.Level.{Level}
 use Rattle.reading.specs.declared.record.Record.{Record}
-use Rattle.round.specs.Questions.{offer_at, AnswersPayoff}
+use Rattle.round.specs.Questions.{AnswersPayoff}
 use Rattle.round.specs.Rounds.{book}
 use Rattle.round.specs.declared.open_round.OpenRound.{OpenRound}
 use Rattle.record.specs.Checks.{total_by, result_of, failing, Tested, Answered, Fails}

@@ -9,7 +9,7 @@ use Rattle.text.specs.Numbers.{unsigned}
 use Rattle.text.specs.Rows.{row_spelt}
 use Rattle.text.specs.declared.buffer.Buffer.{Buffer}
 use Rattle.book.specs.Allotments.{Units, Allotment}
-use Rattle.book.specs.Books.{Book, Offer, no_offer, line_count}
+use Rattle.book.specs.Books.{Book, Offer, no_offer, offer_at, line_count}
 use Rattle.book.specs.Rows.{map_with}
 use Rattle.book.specs.declared.line.Line.{Line}
 use Rattle.book.proofs.Sums.{length_map_with}
@@ -17,7 +17,7 @@ use Rattle.layout.specs.Records.{OfferWithUnits, fill_line, fill_offer}
 use Rattle.layout.specs.Layout.{offer, give, get, spell}
 use Rattle.layout.specs.Render.{head_of, offers_lines}
 use Rattle.round.specs.Closed.{closed_book}
-use Rattle.round.specs.Questions.{lines_on, units_on, offer_at, AnswersUnits}
+use Rattle.round.specs.Questions.{lines_on, units_on, AnswersUnits}
 use Rattle.round.specs.declared.closed_round.ClosedRound.{ClosedRound}
 use Rattle.book.specs.declared.side.Side.{Side}
 use Rattle.book.specs.declared.side.Side.TheVariants.{Give, Get}

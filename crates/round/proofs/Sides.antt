@@ -10,7 +10,7 @@ use Rattle.std.proofs.lemmas.Bool.{and_parts, eqb-true}
 use Rattle.flow.specs.declared.arc.Arc.{Arc}
 use Rattle.flow.specs.Arcs.{blank, flow_of}
 use Rattle.book.specs.Rows.{sum_with}
-use Rattle.book.specs.Books.{Book, Offer, no_offer, Fair, FairOffer}
+use Rattle.book.specs.Books.{Book, Offer, no_offer, offer_at, Fair, FairOffer}
 use Rattle.book.specs.Allotments.{Allotment}
 use Rattle.book.specs.Arcs.{no_flows, arcs_of, arcs_before}
 use Rattle.book.specs.declared.line.Line.{Line}
@@ -19,7 +19,7 @@ use Rattle.book.proofs.Filled.{length_arcs}
 use Rattle.round.specs.Kept.{offer_of, in_rows, Entered}
 use Rattle.round.specs.Rounds.{with_offers}
 use Rattle.round.specs.Closed.{closed_book, closed_allotment}
-use Rattle.round.specs.Questions.{lines_on, units_on, offer_at, Sided}
+use Rattle.round.specs.Questions.{lines_on, units_on, Sided}
 use Rattle.round.specs.declared.entry.Entry.{Entry}
 use Rattle.round.specs.declared.closed_round.ClosedRound.{ClosedRound}
 use Rattle.book.specs.declared.side.Side.{Side}

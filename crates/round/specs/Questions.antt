@@ -1,11 +1,11 @@
 -- What units and payoff answer.
-use Rattle.std.specs.Prelude.{◌≡◌, ℕ, ◌<◌, ◌≤◌, cond, ◌⊎◌, List, [], ◌∷◌, length, get_or, ℤ, IfOk, Result, ◌==◌, slice_index_or}
+use Rattle.std.specs.Prelude.{◌≡◌, ℕ, ◌<◌, ◌≤◌, cond, ◌⊎◌, List, [], ◌∷◌, length, get_or, ℤ, IfOk, Result, ◌==◌}
 use Rattle.tables.specs.Refusals.{when, First, refusal}
 use Rattle.tables.specs.declared.refusal.Refusal.{Refusal}
 use Rattle.flow.specs.declared.arc.Arc.{Arc}
 use Rattle.flow.specs.Arcs.{flow_of}
 use Rattle.book.specs.Rows.{sum_with}
-use Rattle.book.specs.Books.{Book, Offer, no_offer}
+use Rattle.book.specs.Books.{Book, Offer, offer_at}
 use Rattle.book.specs.Allotments.{Units, Allotment, payoff, weeks_of}
 use Rattle.book.specs.declared.line.Line.{Line}
 use Rattle.book.specs.declared.side.Side.{Side}
@@ -20,10 +20,6 @@ lines_on Get o = o.get
 abbrev pub units_on : Side → Units → ℕ → ℕ
 units_on Give u = u.give
 units_on Get u = u.get
-
--- the offer of that number
-abbrev pub offer_at : Book → ℕ → Offer
-offer_at b k = slice_index_or b.offers k no_offer
 
 -- the units on line t of a side of offer k
 pub record AnswersUnits (b : Book) (a : Allotment) (k : ℕ) (s : Side) (t : ℕ) (r : Result ℕ Refusal) : Type 0 where

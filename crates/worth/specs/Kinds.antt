@@ -1,4 +1,4 @@
--- What a kind of worth is: its operations and their laws, and sums of worths.
+-- What a kind of worth is: its operations and their laws.
 use Rattle.std.specs.Prelude.{◌≡◌, ℕ, zero, suc, ◌+◌, ◌≤◌, Bool, true, false, cond, List, [], ◌∷◌, length, ℤ, pos, negsuc, ◌≤ℤ◌}
 use Rattle.std.specs.declared.cmp.Ordering.TheVariants.{Less, Equal, Greater}
 use Rattle.std.specs.declared.cmp.Ordering.{Ordering}
@@ -51,13 +51,3 @@ pub record Laws {M : Type 0} (o : Ops M) : Type 0 where
 -- how two worths compare, from the two tests
 abbrev pub ordering : {M : Type 0} → Ops M → M → M → Ordering
 ordering o x y = cond (o.less x y) Less (cond (o.less y x) Greater Equal)
-
--- the sum of a list
-abbrev pub total : {M : Type 0} → Ops M → List M → M
-total o [] = o.none
-total o (x ∷ xs) = o.plus x (total o xs)
-
--- the sizes of a list added up
-abbrev pub sizes : {M : Type 0} → Ops M → List M → ℕ
-sizes o [] = 0
-sizes o (x ∷ xs) = o.size x + sizes o xs

@@ -1,9 +1,10 @@
 ghost use Rattle.std.specs.Prelude.{◌≡◌, ◌<◌, [], ◌∷◌, length};
+ghost use Rattle.book.specs.Books.{offer_at};
 ghost use Rattle.book.specs.Rows.{map_with};
 ghost use Rattle.layout.specs.Records.{fill_line, fill_offer};
 ghost use Rattle.layout.specs.Render.{offers_lines, offers_section};
 ghost use Rattle.round.specs.Closed.{closed_book, closed_allotment};
-ghost use Rattle.round.specs.Questions.{lines_on, units_on, offer_at};
+ghost use Rattle.round.specs.Questions.{lines_on, units_on};
 ghost use Rattle.record.specs.Writing.{Adds, side_lines};
 
 use super::draft::Draft;

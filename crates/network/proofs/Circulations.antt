@@ -11,7 +11,7 @@ use Rattle.network.specs.Networks.{Net, Sound, flow_in, graph}
 use Rattle.network.specs.Circulations.{Circulates, idle, through}
 use Rattle.network.proofs.Reading.{Walk, Next, ended, sound_arc}
 
--- Circulates is Circulation, for every kind of worth
+-- Circulates says the same by every kind of worth
 pub circulation : {W : Type 0} (o : Ops W) (n : Net) → Circulates n → Circulation (graph o n) (flow_in n)
 unfolding coming going
 circulation o n h = h
@@ -35,6 +35,7 @@ none_counted t is = record { long = refl; each = λ v h. get_or-replicate 272 v 
 
 -- after the last
 pub all_counted : {n : Net} {seen left : List Arc} {rows : List Throughput} → Walk n seen left → left ≡ [] → Counted n (length seen) rows → (v : ℕ) → v < 272 → get_or rows v idle ≡ through n v
+unfolding coming going
 all_counted {n = n} walk over counted v h = counted.each v h ∙ ap (λ i. record { inflow = brings (λ a. a.to) n i v; outflow = brings (λ a. a.from) n i v }) (ended walk over)
 
 when_most : (b : Bool) (x m : ℕ) → x ≤ m → when b x ≤ m

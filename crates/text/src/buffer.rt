@@ -1,4 +1,5 @@
-ghost use Rattle.std.specs.Prelude.{◌≡◌, ◌≤◌, [], ◌∷◌, length};
+ghost use Rattle.std.specs.Prelude.{◌≡◌, ◌≤◌, [], ◌∷◌, length, decimal};
+ghost use Rattle.std.specs.Fmt.{signed_decimal};
 ghost use Rattle.text.specs.Buffers.{Put, Copied};
 ghost use Rattle.text.specs.Numbers.{spelt, level_spelt};
 ghost use Rattle.text.specs.Rows.{row_spelt};
@@ -69,16 +70,18 @@ impl Buffer {
         Ok(())
     }
 
-    // Puts a number in, in decimal digits. It is no `write!`: where that fails, std does not say how much it has put in.
+    // Puts a number in, in decimal digits, which are those of std. It is no `write!`: where that fails, std does not say how much it has put in.
     pub fn number(&mut self, n: u64) -> Result<(), Refusal>
-        ensures { Put self.old self.new (spelt n) result }
+        ensures put { Put self.old self.new (spelt n) result }
+        ensures decimal { spelt n ≡ decimal n }
     {
         self.put(Digits::new().format(n).as_bytes())
     }
 
     // Puts a number in, with a minus where it is below 0.
     pub fn level(&mut self, z: i64) -> Result<(), Refusal>
-        ensures { Put self.old self.new (level_spelt z) result }
+        ensures put { Put self.old self.new (level_spelt z) result }
+        ensures decimal { level_spelt z ≡ signed_decimal z }
     {
         self.put(Digits::new().format(z).as_bytes())
     }

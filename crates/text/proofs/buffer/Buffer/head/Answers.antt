@@ -11,4 +11,4 @@ returns-in_err-put c =
     rw (p.1, p.2) (put_same (ap (λ x. x ∷ 32 ∷ spelt count) c.letter.ensures) (put_stop (spelt count) c.in_err-put.ensures))
 
 pub returns : goal.returns
-returns c = put_same (ap (λ x. x ∷ 32 ∷ spelt c.args.count) c.letter.ensures) (put_then c.in_ok-put.ensures c.number.ensures)
+returns c = put_same (ap (λ x. x ∷ 32 ∷ spelt c.args.count) c.letter.ensures) (put_then c.in_ok-put.ensures c.number.ensures.put)

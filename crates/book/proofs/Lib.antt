@@ -1,6 +1,7 @@
 pub mod Sums
 pub mod Holdings
 pub mod Each
+pub mod Apart
 pub mod Nodes
 pub mod Split
 pub mod Rules

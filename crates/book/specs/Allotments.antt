@@ -74,9 +74,13 @@ payoff o u = pos (price_of o.get u.get) -ℤ pos (price_of o.give u.give)
 abbrev pub payoffs : List Offer → Allotment → ℤ
 payoffs os a = total_with payoff os a
 
--- the weeks that an offer gets: the units of every item but cash
+-- the units x on lines that are not of cash
+abbrev pub weeks_on : List Line → (ℕ → ℕ) → ℕ
+weeks_on ls x = sum_with (λ l n. cond (l.item == 0) 0 n) ls x
+
+-- the weeks that an offer gets
 abbrev pub weeks_of : Offer → Units → ℕ
-weeks_of o u = sum_with (λ l n. cond (l.item == 0) 0 n) o.get u.get
+weeks_of o u = weeks_on o.get u.get
 
 -- the weeks got over all offers
 abbrev pub weeks_got : List Offer → Allotment → ℕ

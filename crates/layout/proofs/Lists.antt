@@ -6,6 +6,7 @@ use Rattle.std.proofs.lemmas.Bool.{cases_lt, cases_eq, cases_Bool, both_ways, an
 use Rattle.text.specs.Parts.{Free}
 use Rattle.text.proofs.Cuts.{free_none, free_cons}
 use Rattle.book.specs.Books.{Distinct, Any, Loop}
+use Rattle.book.proofs.Apart.{distinct_push}
 use Rattle.book.specs.Spelling.{name_byte, name_bytes, Spelt}
 use Rattle.book.specs.declared.line.Line.{Line}
 
@@ -47,17 +48,6 @@ all_mid P (z ∷ xs) ys x h = all_mid P xs ys x h.1
 
 pub none_apart : {X : Type 0} → Distinct {X = X} []
 none_apart i j d lt lj e = omega arith
-
--- a new entry at the end leaves the entries apart
-pub distinct_push : {X : Type 0} (xs : List X) (x : X) → Distinct xs → (Has xs x → ⊥) → Distinct (xs ++ x ∷ [])
-distinct_push xs x h n i j d lt lj e =
-    let lj' : j < length xs + 1 = subst (λ m. j < m) (length_push xs x) lj in
-    elim (cases_lt j (length xs)) [
-      | inl l ↦ h i j d lt l (sym (get_or_append_left xs (x ∷ []) d i (omega arith)) ∙ e ∙ get_or_append_left xs (x ∷ []) d j l)
-      | inr l ↦
-          let li : i < length xs = omega arith in
-          n (i, li, λ d'. get_or_default xs i d' d li ∙ sym (get_or_append_left xs (x ∷ []) d i li) ∙ e ∙ get_or_push xs x d j (omega arith))
-    ]
 
 -- where entries are apart, none stands among those above it
 pub distinct_mid : {X : Type 0} (xs ys : List X) (x : X) → Distinct (xs ++ x ∷ ys) → Has xs x → ⊥

@@ -13,6 +13,7 @@ use Rattle.book.specs.Spelling.{name_bytes, Spelt}
 use Rattle.book.specs.Books.{Book, Offer, no_offer, pair, spot_of, Distinct, Twice, Any, item_of, line_count, FairHolding, Fair, Side, FairOffer, Sound}
 use Rattle.book.specs.declared.line.Line.{Line}
 use Rattle.book.specs.declared.holding.Holding.{Holding}
+use Rattle.book.proofs.Apart.{distinct_push}
 use Rattle.round.specs.Rounds.{fresh, with_offers}
 use Rattle.round.specs.Naming.{TakesItem, TakesMember}
 use Rattle.round.specs.Holdings.{put_at, Holds}
@@ -53,17 +54,6 @@ spelt s f = (
   at_most (length s) 12 (λ l. f (λ p. omega (arith, p.1))),
   elim (cases_Bool (name_bytes s)) [ inl e ↦ e | inr e ↦ absurd (f (λ p. both_ways (name_bytes s) e p.2)) ],
 )
-
--- a new entry at the end leaves the entries apart
-distinct_push : {X : Type 0} (xs : List X) (x : X) → Distinct xs → (Has xs x → ⊥) → Distinct (xs ++ x ∷ [])
-distinct_push xs x h n i j d lt lj e =
-    let lj' : j < length xs + 1 = subst (λ m. j < m) (length_push xs x) lj in
-    elim (cases_lt j (length xs)) [
-      | inl l ↦ h i j d lt l (sym (get_or_append_left xs (x ∷ []) d i (omega arith)) ∙ e ∙ get_or_append_left xs (x ∷ []) d j l)
-      | inr l ↦
-          let li : i < length xs = omega arith in
-          n (i, li, λ d'. get_or_default xs i d' d li ∙ sym (get_or_append_left xs (x ∷ []) d i li) ∙ e ∙ get_or_push xs x d j (omega arith))
-    ]
 
 fair_more : (n n' : ℕ) → n ≤ n' → (l : Line) → Fair n l → Fair n' l
 fair_more n n' le l p = record { known = omega arith; least = p.least; most = p.most; price = p.price }

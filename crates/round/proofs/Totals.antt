@@ -5,9 +5,9 @@ use Rattle.std.proofs.lemmas.List.Sums.{sum_by-cons}
 use Rattle.flow.specs.declared.arc.Arc.{Arc}
 use Rattle.flow.specs.Arcs.{flow_of}
 use Rattle.book.specs.Rows.{sum_with}
-use Rattle.book.specs.Allotments.{price_of}
+use Rattle.book.specs.Allotments.{price_of, weeks_on}
 use Rattle.book.specs.declared.line.Line.{Line}
-use Rattle.round.specs.Questions.{weeks_on, Moderate}
+use Rattle.round.specs.Questions.{Moderate}
 
 -- a sum over the pairs of a line and its arc
 sum_zip : (f : Line → ℕ → ℕ) (ls : List Line) (arcs : List Arc) → length arcs ≡ length ls → sum_by (λ p. f p.0 p.1.flow) (zip ls arcs) ≡ sum_with f ls (flow_of arcs)

@@ -1,10 +1,9 @@
 -- What units and payoff answer.
-use Rattle.std.specs.Prelude.{◌≡◌, ℕ, ◌<◌, ◌≤◌, cond, ◌⊎◌, List, [], ◌∷◌, length, get_or, ℤ, IfOk, Result, ◌==◌}
+use Rattle.std.specs.Prelude.{◌≡◌, ℕ, ◌<◌, ◌≤◌, ◌⊎◌, List, [], ◌∷◌, length, get_or, ℤ, IfOk, Result}
 use Rattle.tables.specs.Refusals.{when, First, refusal}
 use Rattle.tables.specs.declared.refusal.Refusal.{Refusal}
 use Rattle.flow.specs.declared.arc.Arc.{Arc}
 use Rattle.flow.specs.Arcs.{flow_of}
-use Rattle.book.specs.Rows.{sum_with}
 use Rattle.book.specs.Books.{Book, Offer, offer_at}
 use Rattle.book.specs.Allotments.{Units, Allotment, payoff, weeks_of}
 use Rattle.book.specs.declared.line.Line.{Line}
@@ -30,10 +29,6 @@ pub record AnswersUnits (b : Book) (a : Allotment) (k : ℕ) (s : Side) (t : ℕ
 pub record AnswersPayoff (b : Book) (a : Allotment) (k : ℕ) (r : Result (ℤ × ℕ) Refusal) : Type 0 where
   pub refused : First (when 1 (length b.offers ≤ k) ∷ []) (refusal r)
   pub answer : IfOk r (λ p. (p.0 ≡ payoff (offer_at b k) (a k)) × (p.1 ≡ weeks_of (offer_at b k) (a k)))
-
--- the units x on lines that are not of cash
-abbrev pub weeks_on : List Line → (ℕ → ℕ) → ℕ
-weeks_on ls x = sum_with (λ l n. cond (l.item == 0) 0 n) ls x
 
 -- lines and their arcs, few and small enough to be summed
 pub record Moderate (ls : List Line) (arcs : List Arc) : Type 0 where

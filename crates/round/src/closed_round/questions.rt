@@ -1,10 +1,10 @@
 ghost use Rattle.std.specs.Prelude.{◌≡◌, ◌+◌, ◌≤◌, length, take, drop, MatchOption};
 ghost use Rattle.flow.specs.Arcs.{flow_of};
 ghost use Rattle.network.specs.Networks.{value};
-ghost use Rattle.book.specs.Allotments.{price_of};
+ghost use Rattle.book.specs.Allotments.{price_of, weeks_on};
 ghost use Rattle.round.specs.Closed.{closed_book, closed_net, closed_allotment};
 ghost use Rattle.round.specs.Holdings.{AnswersHolding};
-ghost use Rattle.round.specs.Questions.{weeks_on, Moderate, Sided, AnswersUnits, AnswersPayoff};
+ghost use Rattle.round.specs.Questions.{Moderate, Sided, AnswersUnits, AnswersPayoff};
 ghost use Rattle.round.specs.Uses.{Law};
 
 use super::ClosedRound;

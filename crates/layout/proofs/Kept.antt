@@ -10,10 +10,11 @@ use Rattle.text.specs.NumbersLemmas.{few_digits, legible_unsigned, legible_signe
 use Rattle.book.specs.Books.{Distinct, Loop, Fair, FairHolding, item_of, pair}
 use Rattle.book.specs.Spelling.{Spelt}
 use Rattle.book.specs.declared.holding.Holding.{Holding}
+use Rattle.book.proofs.Apart.{distinct_push}
 use Rattle.layout.specs.Records.{Kind, by_money, by_money_then_weeks, LineWithUnits, OfferWithUnits, Contents, line_of, level_size, FairLevel}
 use Rattle.layout.specs.Layout.{item, member, holding, give, get, level, holding_row, line_row, Short, last, line_rules, on_last, giving, getting, with_offers}
 use Rattle.layout.proofs.Lines.{row_free}
-use Rattle.layout.proofs.Lists.{below, at_most, same_bytes, spelt_stable, free_name, all_mid, none_apart, distinct_push, distinct_mid, apart_push, apart_mid, loop_push, loop_mid}
+use Rattle.layout.proofs.Lists.{below, at_most, same_bytes, spelt_stable, free_name, all_mid, none_apart, distinct_mid, apart_push, apart_mid, loop_push, loop_mid}
 use Rattle.layout.proofs.Sections.{Kept, Listing}
 
 -- contents, part by part

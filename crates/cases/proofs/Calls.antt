@@ -1,5 +1,5 @@
 -- Calls go in one way, and tests that compute tell which.
-use Rattle.std.proofs.Common.{◌≡◌, ℕ, ◌<◌, List, [], ◌∷◌, ◌++◌, length, Ok, Err, Result, Some, None, Option, MatchResult, sym, refl, ap, ap₂, ◌∙◌, subst}
+use Rattle.std.proofs.Common.{◌≡◌, ℕ, ◌<◌, List, [], ◌∷◌, ◌++◌, length, Ok, Err, Result, Some, None, Option, MatchResult, sym, refl, ap, ap₂, ◌∙◌, subst, subst₂}
 use Rattle.std.proofs.lemmas.Option.{none-some}
 use Rattle.tables.specs.Refusals.{Row, when, First, refusal, number}
 use Rattle.tables.specs.declared.refusal.Refusal.{Refusal}
@@ -14,7 +14,7 @@ use Rattle.round.specs.Naming.{naming}
 use Rattle.round.specs.Holdings.{placed, Strange, Crowded}
 use Rattle.round.specs.Offering.{made, offering}
 use Rattle.haul_table.specs.Roads.{empty, with_arc, road_rows}
-use Rattle.cases.specs.Calls.{Answer, numbered, refused, with_number, with_nothing, Run, stopped, went, Lead, Call, item, member, hold, offer, Calls, Built, Close, Closed, Roads, Hauled}
+use Rattle.cases.specs.Calls.{Answer, numbered, refused, with_number, with_nothing, Run, stopped, went, Lead, Call, item, member, hold, offer, Calls, Built, Close, ClosedWith, Closed, Roads, Hauled}
 
 -- one call does one thing
 
@@ -73,9 +73,13 @@ run_on (went p r) w = went p (run_on r w)
 pub built : {b : Book} {calls : List Call} {answers : List Answer} → Run Calls fresh calls answers b → (P : Book → Type 0) → P b → Built calls answers P
 built r P p = lead calls_once r P p
 
+-- of the book and the network that it is closed with
+pub closed_with : {b : Book} {calls : List Call} {answers : List Answer} → Run Calls fresh calls answers b → (P : Book → Net → Type 0) → P b (net_of b) → ClosedWith calls answers P
+closed_with {b} r P p = lead calls_once r (λ c. Close c P) (record { some = (b, net_of b, record { book = refl; net = refl }); every = λ after n c. subst₂ P (sym c.book) (sym c.net) p })
+
 -- of its network
 pub closed : {b : Book} {calls : List Call} {answers : List Answer} → Run Calls fresh calls answers b → (P : Net → Type 0) → P (net_of b) → Closed calls answers P
-closed {b} r P p = lead calls_once r (λ c. Close c P) (record { some = (b, net_of b, record { book = refl; net = refl }); every = λ after n c. subst P (sym c.net) p })
+closed r P p = closed_with r (λ b n. P n) p
 
 -- and of the haul table
 pub hauled : {n : Net} {roads : List Arc} {answers : List Answer} → Run Roads empty roads answers n → (P : Net → Type 0) → P n → Hauled roads answers P

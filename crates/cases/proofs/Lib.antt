@@ -10,5 +10,9 @@ pub mod Rounds
 pub mod Records
 pub mod Cuts
 pub mod Cleared
+pub mod Left
+pub mod Paid
+pub mod Filled
 pub mod Edges
 pub mod Texts
+pub mod NoCash

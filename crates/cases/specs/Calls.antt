@@ -1,5 +1,5 @@
 -- Calls made one after another, and what they come back with.
-use Rattle.std.specs.Prelude.{◌≡◌, ℕ, List, [], ◌∷◌, Ok, Err, Result}
+use Rattle.std.specs.Prelude.{◌≡◌, ℕ, List, [], ◌∷◌, ℤ, Ok, Err, Result}
 use Rattle.tables.specs.Refusals.{number}
 use Rattle.tables.specs.declared.refusal.Refusal.{Refusal}
 use Rattle.flow.specs.declared.arc.Arc.{Arc}
@@ -11,6 +11,8 @@ use Rattle.round.specs.Naming.{TakesItem, TakesMember}
 use Rattle.round.specs.Holdings.{Holds}
 use Rattle.round.specs.Offering.{made, TakesOffer}
 use Rattle.round.specs.Closed.{Closes}
+use Rattle.round.specs.Questions.{AnswersPayoff}
+use Rattle.round.specs.Uses.{allotted}
 use Rattle.haul_table.specs.Roads.{empty, Roaded}
 
 -- what a call comes back with: the number of what it made, nothing, or the number of a refusal
@@ -57,14 +59,23 @@ Calls b (offer m limit give get) a t = (r : Result ℕ Refusal) × TakesOffer b 
 abbrev pub Built : List Call → List Answer → (Book → Type 0) → Type 0
 Built calls answers P = Lead Calls fresh calls answers P
 
--- a round with this book can be closed, and P holds of the network that it then has
-pub record Close (b : Book) (P : Net → Type 0) : Type 0 where
+-- a round with this book can be closed, and P holds of the book and the network that it then has
+pub record Close (b : Book) (P : Book → Net → Type 0) : Type 0 where
   pub some : (after : Book) × (n : Net) × Closes b after n
-  pub every : (after : Book) (n : Net) → Closes b after n → P n
+  pub every : (after : Book) (n : Net) → Closes b after n → P after n
 
 -- the same of a round that is closed after the calls
+abbrev pub ClosedWith : List Call → List Answer → (Book → Net → Type 0) → Type 0
+ClosedWith calls answers P = Built calls answers (λ b. Close b P)
+
+-- and where P speaks of its network alone
 abbrev pub Closed : List Call → List Answer → (Net → Type 0) → Type 0
-Closed calls answers P = Built calls answers (λ b. Close b P)
+Closed calls answers P = ClosedWith calls answers (λ b n. P n)
+
+-- a closed round with this book and this network can answer payoff of offer k, and however it answers, it answers p
+pub record Pays (b : Book) (n : Net) (k : ℕ) (p : ℤ × ℕ) : Type 0 where
+  pub some : (r : Result (ℤ × ℕ) Refusal) × AnswersPayoff b (allotted b n) k r
+  pub every : (r : Result (ℤ × ℕ) Refusal) → AnswersPayoff b (allotted b n) k r → r ≡ Ok p
 
 -- what road does to a haul table, as its contract says
 abbrev pub Roads : Net → Arc → Answer → Net → Type 0

@@ -75,9 +75,17 @@ cut_text = ended (take 34 (money_lines (codes "3") chain_levels))
 abbrev pub chain_sheet : List ℕ
 chain_sheet = money_text (codes "0") (codes "L 0" ∷ [])
 
--- by money, with 2 units of cash held by member 2 too, and 2 units on each line
+-- by money, with so many units of cash held by member 2 too, and as many on each line; the levels are the same for each number
+abbrev pub cash_lines : List ℕ → List (List ℕ)
+cash_lines units = chain_lines (map codes ("K 1" ∷ "money" ∷ [])) (codes "H 3" ∷ codes "0 1 5" ∷ codes "1 2 4" ∷ (codes "2 0 " ++ units) ∷ []) units (codes "160") (map codes ("L 12" ∷ "0" ∷ "100" ∷ "70" ∷ "100" ∷ "70" ∷ "-90" ∷ "0" ∷ "0" ∷ "-80" ∷ "-80" ∷ "-90" ∷ "-90" ∷ []))
+
+-- with 2 units
 abbrev pub cash_text : List ℕ
-cash_text = ended (chain_lines (map codes ("K 1" ∷ "money" ∷ [])) (map codes ("H 3" ∷ "0 1 5" ∷ "1 2 4" ∷ "2 0 2" ∷ [])) (codes "2") (codes "160") (map codes ("L 12" ∷ "0" ∷ "100" ∷ "70" ∷ "100" ∷ "70" ∷ "-90" ∷ "0" ∷ "0" ∷ "-80" ∷ "-80" ∷ "-90" ∷ "-90" ∷ [])))
+cash_text = ended (cash_lines (codes "2"))
+
+-- with a holding of 0 units, which is not the same as no holding
+abbrev pub no_cash_text : List ℕ
+no_cash_text = ended (cash_lines (codes "0"))
 
 -- by money then weeks, with price 70
 abbrev pub weeks_text : List ℕ

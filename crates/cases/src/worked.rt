@@ -1,4 +1,6 @@
-ghost use Rattle.cases.specs.Cases.{Cases};
+ghost use Rattle.cases.specs.Cases.{Cases, EmptyRound};
+
+use worth::kind::Worth;
 
 // What the rules make of the worked cases, whichever cycles improve takes and whichever potentials are left.
 pub fn cases_stand()
@@ -6,6 +8,9 @@ pub fn cases_stand()
       empty_worth = 0;
       empty_worth_with_weeks = (0, 0);
       chain_rise = 270;
+      offer_0_costs = (300, 0);
+      offer_1_pays = (90, 3);
+      offer_2_pays = (480, 3);
       rise_with_two = 180;
       rise_with_none = 0;
       rise_at_70 = 0;
@@ -23,6 +28,7 @@ pub fn cases_stand()
       chain_record = 270;
       raised_record = 270;
       cash_record = 180;
+      no_cash_record = 0;
       weeks_record = (0, 6);
       market_record = 1500;
       refusal_with_79 = 11;
@@ -31,6 +37,7 @@ pub fn cases_stand()
       refusal_of_cut = 13;
       line_of_cut = 35;
       roads_rise = 60;
+      units_on_roads = 3;
       refusal_of_loop = 8;
       offer_at_same_price = 0;
       offer_at_lower_price = 0;
@@ -39,4 +46,10 @@ pub fn cases_stand()
       refusal_of_limits = 3;
       refusal_of_prices = 4;
     }) }
+{}
+
+// What they make of the empty round by any kind of worth. That is a statement of its own, since the record above speaks of no kind but
+// money and money then weeks.
+pub fn empty_round_stands<W: Worth>()
+    ensures { EmptyRound W.Worth.ops }
 {}

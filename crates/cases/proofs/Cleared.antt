@@ -75,6 +75,11 @@ chain_finish w is = finish money_laws (begins money (chain_run 160 refl)) (λ i.
 pub chain_rises : (w : ℕ) → worth money (graph money chain_net) (λ i. 3) ≡ cents w → money.less money.none (cents w) ≡ true → all_bring money_laws chain_net (cents w) ≡ true → RisesOnce money (cents w) chain_net × Clears money (cents w) chain_net
 chain_rises w is more test = (once money_laws (chain_finish w is) more test, clears money_laws (chain_finish w is))
 
+pub chain_rises_with_weeks : (x : ℕ × ℕ) → worth M (graph M chain_net) (λ i. 3) ≡ both x → M.less M.none (both x) ≡ true → all_bring M_laws chain_net (both x) ≡ true → RisesOnce M (both x) chain_net × Clears M (both x) chain_net
+chain_rises_with_weeks x is more test =
+    let f = finish M_laws (begins M (chain_run 160 refl)) (λ i. 3) (pairs ((pos 0, pos 0) ∷ (pos 100, pos 0) ∷ (pos 160, pos 1) ∷ (pos 100, pos 0) ∷ (pos 160, pos 1) ∷ (pos 0, pos 0) ∷ (pos 0, pos 0) ∷ (pos 10, pos 1) ∷ (negsuc 79, negsuc 0) ∷ (pos 0, pos 0) ∷ (pos 0, pos 0) ∷ [])) (both x) refl is in
+    (once M_laws f more test, clears M_laws f)
+
 -- what holds of each network of the arcs of the chain whose flows are worth 270 cents
 pub chain_leaves : (P : Net → Type 0) → ((t : Net) → Reached money_laws chain_net (cents 270) t → P t) → Leaves money P chain_net
 chain_leaves P at = left money_laws (chain_finish 270 refl) refl refl P at

@@ -87,6 +87,7 @@ pub record Numbers : Type 0 where
   pub empty_worth : ℕ
   pub empty_worth_with_weeks : ℕ × ℕ
   pub chain_rise : ℕ
+  pub chain_rise_with_weeks : ℕ × ℕ
   pub offer_0_costs : ℕ × ℕ
   pub offer_1_pays : ℕ × ℕ
   pub offer_2_pays : ℕ × ℕ
@@ -125,21 +126,24 @@ pub record Numbers : Type 0 where
   pub refusal_of_limits : ℕ
   pub refusal_of_prices : ℕ
 
--- what comes out
-pub record Cases (x : Numbers) : Type 0 where
-  -- the empty round by money, and by money then weeks: improve answers best, and its network is worth nothing
+-- what comes out, and of the empty round what comes out by a kind, whichever it is
+pub record Cases {W : Type 0} (o : Ops W) (x : Numbers) : Type 0 where
+  -- the empty round by that kind
+  pub empty_round_by_any : EmptyRound o
+  -- the same by money, and by money then weeks: improve answers best, and its network is worth nothing
   pub empty_round : Closed [] [] (λ n. Best money n × (value money n ≡ cents x.empty_worth))
   pub empty_round_with_weeks : Closed [] [] (λ n. Best (pile money weeks) n × (value (pile money weeks) n ≡ both x.empty_worth_with_weeks))
-  -- the chain round by money: improve rises and then answers best, and clear rises by as much
+  -- the chain round by money, and by money then weeks: improve rises and then answers best, and clear rises by as much
   pub chain_round : Closed (chain [] 160) (chain_answers []) (λ n. RisesOnce money (cents x.chain_rise) n × Clears money (cents x.chain_rise) n)
-  -- then, after improve and after clear, which keep the book, payoff answers so of its three offers
+  pub chain_round_with_weeks : Closed (chain [] 160) (chain_answers []) (λ n. RisesOnce (pile money weeks) (both x.chain_rise_with_weeks) n × Clears (pile money weeks) (both x.chain_rise_with_weeks) n)
+  -- then, by money, after improve and after clear, which keep the book, payoff answers so of its three offers
   pub chain_paid : ClosedWith (chain [] 160) (chain_answers []) (λ b n. Leaves money (λ t. Pays b t 0 (costs x.offer_0_costs) × (Pays b t 1 (pays x.offer_1_pays) × Pays b t 2 (pays x.offer_2_pays))) n)
   -- by money with a cash holding of member 2, of 2 units and of 0 units: with 2 improve rises and then answers best, with 0 it answers
   -- best at once, and clear rises by as much
   pub two_held : Closed (chain (hold 2 0 2 ∷ []) 160) (chain_answers (done ∷ [])) (λ n. RisesOnce money (cents x.rise_with_two) n × Clears money (cents x.rise_with_two) n)
   pub none_held : Closed (chain (hold 2 0 0 ∷ []) 160) (chain_answers (done ∷ [])) (λ n. Best money n × Clears money (cents x.rise_with_none) n)
-  -- with the last price 70 and 69, by money and by money then weeks: improve rises with 70 by money then weeks, and then answers best;
-  -- else it answers best at once; and clear rises by as much
+  -- with the last price 70 and 69, by money and by money then weeks: with 70 by money then weeks improve rises and then answers best,
+  -- else it answers best at once, and clear rises by as much
   pub at_70 : Closed (chain [] 70) (chain_answers []) (λ n. Best money n × Clears money (cents x.rise_at_70) n)
   pub at_70_with_weeks : Closed (chain [] 70) (chain_answers []) (λ n. RisesOnce (pile money weeks) (both x.rise_at_70_with_weeks) n × Clears (pile money weeks) (both x.rise_at_70_with_weeks) n)
   pub at_69 : Closed (chain [] 69) (chain_answers []) (λ n. Best money n × Clears money (cents x.rise_at_69) n)

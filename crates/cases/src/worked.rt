@@ -1,13 +1,15 @@
-ghost use Rattle.cases.specs.Cases.{Cases, EmptyRound};
+ghost use Rattle.cases.specs.Cases.{Cases};
 
 use worth::kind::Worth;
 
-// What the rules make of the worked cases, whichever cycles improve takes and whichever potentials are left.
-pub fn cases_stand()
-    ensures { Cases (record {
+// What the rules make of the worked cases, whichever cycles improve takes and whichever potentials are left. The empty round comes
+// out the same by every kind of worth, so `W` is any; the others are by money, or by money then weeks.
+pub fn cases_stand<W: Worth>()
+    ensures { Cases W.Worth.ops (record {
       empty_worth = 0;
       empty_worth_with_weeks = (0, 0);
       chain_rise = 270;
+      chain_rise_with_weeks = (270, 6);
       offer_0_costs = (300, 0);
       offer_1_pays = (90, 3);
       offer_2_pays = (480, 3);
@@ -46,10 +48,4 @@ pub fn cases_stand()
       refusal_of_limits = 3;
       refusal_of_prices = 4;
     }) }
-{}
-
-// What they make of the empty round by any kind of worth. That is a statement of its own, since the record above speaks of no kind but
-// money and money then weeks.
-pub fn empty_round_stands<W: Worth>()
-    ensures { EmptyRound W.Worth.ops }
 {}

@@ -2,7 +2,7 @@ use Rattle.std.specs.Prelude.{refl}
 use Rattle.cases.specs.Calls.{stopped}
 use Rattle.worth.specs.Integers.{money_laws}
 use Rattle.cases.proofs.Calls.{built, closed, closed_with, hauled}
-use Rattle.cases.proofs.Cleared.{M_laws, empty_best, chain_rises, two_rise, none_best, best_at_70, rises_at_70, best_at_69, best_at_69_with_weeks, resale_clears, clears_with_none, clears_with_one, market_clears, roads_rise}
+use Rattle.cases.proofs.Cleared.{M_laws, empty_best, chain_rises, chain_rises_with_weeks, two_rise, none_best, best_at_70, rises_at_70, best_at_69, best_at_69_with_weeks, resale_clears, clears_with_none, clears_with_one, market_clears, roads_rise}
 use Rattle.cases.proofs.Paid.{chain_paid}
 use Rattle.cases.proofs.Filled.{roads_filled}
 use Rattle.cases.proofs.NoCash.{no_cash_is, no_cash_passes}
@@ -12,10 +12,12 @@ use Rattle.cases.proofs.Texts.{empty_is, empty_passes, chain_is, chain_passes, c
 use Rattle.cases.proofs.worked.cases_stand.Goals as goal
 
 pub returns : goal.returns
-returns c = record {
+returns g c = record {
+  empty_round_by_any = closed stopped _ (empty_best g.met.W.Worth.lawful, refl);
   empty_round = closed stopped _ (empty_best money_laws, refl);
   empty_round_with_weeks = closed stopped _ (empty_best M_laws, refl);
   chain_round = closed (chain_run 160 refl) _ (chain_rises _ refl refl refl);
+  chain_round_with_weeks = closed (chain_run 160 refl) _ (chain_rises_with_weeks _ refl refl refl);
   chain_paid = closed_with (chain_run 160 refl) _ (chain_paid _ _ _ refl refl refl);
   two_held = closed (cash_run 2 refl) _ (two_rise _ refl refl refl);
   none_held = closed (cash_run 0 refl) _ (none_best _ refl);

@@ -6,3 +6,4 @@ pub mod Pushed
 pub mod Totals
 pub mod Sides
 pub mod Standing
+pub mod Built

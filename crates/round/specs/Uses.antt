@@ -85,3 +85,11 @@ module _ {W : Type 0} (o : Ops W) where
 -- for these two, and on close, improve and clear for any
 abbrev pub RoundLaw : Type 0
 RoundLaw = OpenLaw × Law money × Law (pile money weeks)
+
+-- some calls from open on leave this book
+abbrev pub Built : Book → Type 0
+Built b = (calls : List Accepted) × Opened calls b
+
+-- each sound book is left by some calls
+abbrev pub EachBuilt : Type 0
+EachBuilt = (b : Book) → Sound b → Built b

@@ -7,3 +7,4 @@ pub mod closed_round;
 mod entry;
 pub mod offer_view;
 pub mod open_round;
+pub mod theorems;

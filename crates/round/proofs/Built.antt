@@ -1,7 +1,5 @@
 -- Each sound book is left by some calls: its items, its members, its holdings and its offers, each in their order.
 use Rattle.std.proofs.Common.{◌≡◌, ℕ, ◌+◌, ◌<◌, ◌≤◌, ◌⊎◌, List, [], ◌∷◌, ◌++◌, map, length, get_or, set, Some, None, Ok, Option, sym, refl, ap, ◌∙◌, subst, inl, inr, codes, arith, ⊎_elim, append_assoc, length-append}
-use Rattle.std.proofs.Math.Bridge.{le_prop}
-use Rattle.std.proofs.Props.{props}
 use Rattle.std.specs.List.{ContainsAt as Has, AllByRecursion}
 use Rattle.std.proofs.lemmas.List.{length-map, length_push, get_or_append_left, append-nil, get_or-map, map-append}
 use Rattle.std.proofs.Math.Seq.{get_or-append_seam, set-append_seam}
@@ -172,7 +170,3 @@ module _ (b : Book) (k : Sound b) where
 
 pub each_built : EachBuilt
 each_built = book_built
-
--- a book is sound in one way at most
-pub sound_prop : (b : Book) → IsProp (Sound b)
-sound_prop b = hlevel (props, le_prop)

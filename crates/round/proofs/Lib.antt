@@ -7,3 +7,4 @@ pub mod Totals
 pub mod Sides
 pub mod Standing
 pub mod Built
+pub mod Unique

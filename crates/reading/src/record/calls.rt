@@ -2,6 +2,7 @@ ghost use Rattle.std.specs.Prelude.{◌≡◌, map};
 ghost use Rattle.std.specs.List.{AllByRecursion};
 ghost use Rattle.layout.specs.Records.{book_of};
 ghost use Rattle.round.specs.Rounds.{book};
+ghost use Rattle.round.specs.Uses.{Built};
 ghost use Rattle.reading.specs.Contents.{contents};
 ghost use Rattle.reading.specs.Held.{units_in};
 ghost use Rattle.reading.specs.Kinds.{kind as kind_as};
@@ -42,9 +43,10 @@ impl Record {
         self.levels.as_slice()
     }
 
-    // The round alone.
+    // The round alone. It is one that some calls from open on leave, so the law over whole uses of a round holds of what comes after.
     pub fn into_round(self) -> OpenRound
-        ensures { book result ≡ book_of (contents self) }
+        ensures outcome { book result ≡ book_of (contents self) }
+        ensures built { Built (book result) }
     {
         let Record { round, .. } = self;
         round

@@ -25,8 +25,8 @@ returns-in_err-cleared c =
     let x = contents c.in_ok-read.read in
     let before = c.args.page.now in
     let done : ClearedRound x.kind (book_of x) before c.match-kind.page c.match-kind.cleared = elim c.match-kind.branch [
-      | in-Money w ↦ cleared_as by_money x.kind _ (book_of x) before _ c.match-kind.page _ c.match-kind.cleared w.in-Money.ensures c.into_round-round.ensures w.page-is w.cleared-is w.clear_by-cleared.ensures
-      | in-MoneyThenWeeks w ↦ cleared_as by_money_then_weeks x.kind _ (book_of x) before _ c.match-kind.page _ c.match-kind.cleared w.in-MoneyThenWeeks.ensures c.into_round-round.ensures w.page-is w.cleared-is w.clear_by-cleared-in-MoneyThenWeeks.ensures
+      | in-Money w ↦ cleared_as by_money x.kind _ (book_of x) before _ c.match-kind.page _ c.match-kind.cleared w.in-Money.ensures c.into_round-round.ensures.outcome w.page-is w.cleared-is w.clear_by-cleared.ensures
+      | in-MoneyThenWeeks w ↦ cleared_as by_money_then_weeks x.kind _ (book_of x) before _ c.match-kind.page _ c.match-kind.cleared w.in-MoneyThenWeeks.ensures c.into_round-round.ensures.outcome w.page-is w.cleared-is w.clear_by-cleared-in-MoneyThenWeeks.ensures
     ] in
     let left = subst (ClearedRound x.kind (book_of x) before c.match-kind.page) c.in_err-cleared.was done in
     rw (p.1, p.2) (record { outcome = (left.0, inr (inr (record { sheet = x; reads = c.in_ok-read.ensures.outcome; is = c.is_sheet.ensures.0 c.if-not-is_sheet.false; short = left.1; line = refl }))); law = evidence })
@@ -36,8 +36,8 @@ returns c =
     let x = contents c.in_ok-read.read in
     let before = c.args.page.now in
     let done : ClearedRound x.kind (book_of x) before c.match-kind.page c.match-kind.cleared = elim c.match-kind.branch [
-      | in-Money w ↦ cleared_as by_money x.kind _ (book_of x) before _ c.match-kind.page _ c.match-kind.cleared w.in-Money.ensures c.into_round-round.ensures w.page-is w.cleared-is w.clear_by-cleared.ensures
-      | in-MoneyThenWeeks w ↦ cleared_as by_money_then_weeks x.kind _ (book_of x) before _ c.match-kind.page _ c.match-kind.cleared w.in-MoneyThenWeeks.ensures c.into_round-round.ensures w.page-is w.cleared-is w.clear_by-cleared-in-MoneyThenWeeks.ensures
+      | in-Money w ↦ cleared_as by_money x.kind _ (book_of x) before _ c.match-kind.page _ c.match-kind.cleared w.in-Money.ensures c.into_round-round.ensures.outcome w.page-is w.cleared-is w.clear_by-cleared.ensures
+      | in-MoneyThenWeeks w ↦ cleared_as by_money_then_weeks x.kind _ (book_of x) before _ c.match-kind.page _ c.match-kind.cleared w.in-MoneyThenWeeks.ensures c.into_round-round.ensures.outcome w.page-is w.cleared-is w.clear_by-cleared-in-MoneyThenWeeks.ensures
     ] in
     let filed = subst (ClearedRound x.kind (book_of x) before c.match-kind.page) c.in_ok-cleared.was done in
     record { outcome = record { sheet = x; reads = c.in_ok-read.ensures.outcome; is = c.is_sheet.ensures.0 c.if-not-is_sheet.false; filed = filed }; law = evidence }

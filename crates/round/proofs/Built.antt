@@ -13,11 +13,12 @@ use Rattle.book.specs.declared.line.Line.{Line}
 use Rattle.book.specs.declared.holding.Holding.{Holding}
 use Rattle.terms.specs.Lines.{Out}
 use Rattle.terms.proofs.Spots.{spot_some}
-use Rattle.round.specs.Rounds.{fresh}
+use Rattle.round.specs.Rounds.{book, fresh}
 use Rattle.round.specs.Naming.{naming}
 use Rattle.round.specs.Holdings.{put_at}
 use Rattle.round.specs.Offering.{made, offering, withdrawn}
-use Rattle.round.specs.Uses.{begun, item, member, hold, offer, withdraw, Built, EachBuilt}
+use Rattle.round.specs.Uses.{begun, item, member, hold, offer, withdraw, Built, EachBuilt, RoundsBuilt}
+use Rattle.round.proofs.Unique.{book_sound}
 
 -- a list is made entry by entry, from what begins it
 grown : {X : Type 0} (P : List X → Type 0) (whole : List X) → ((xs ys : List X) (x : X) → xs ++ x ∷ ys ≡ whole → P xs → P (xs ++ x ∷ [])) → (xs ys : List X) → xs ++ ys ≡ whole → P xs → P whole
@@ -170,3 +171,6 @@ module _ (b : Book) (k : Sound b) where
 
 pub each_built : EachBuilt
 each_built = book_built
+
+pub rounds_built : RoundsBuilt
+rounds_built r = book_built (book r) (book_sound (book r) r.sound)

@@ -13,11 +13,12 @@ use Rattle.book.specs.Allotments.{Allotment, Allowed}
 use Rattle.book.specs.Arcs.{filled, allotment_of}
 use Rattle.book.specs.Agreement.{BestAllotment}
 use Rattle.book.specs.declared.holding.Holding.{Holding}
-use Rattle.round.specs.Rounds.{fresh, with_items, with_members, with_holdings, with_offers}
+use Rattle.round.specs.Rounds.{book, fresh, with_items, with_members, with_holdings, with_offers}
 use Rattle.round.specs.Naming.{TakesItem, TakesMember}
 use Rattle.round.specs.Holdings.{placed, Holds}
 use Rattle.round.specs.Offering.{TakesOffer, withdrawn, Withdraws}
 use Rattle.round.specs.Closed.{Closes}
+use Rattle.round.specs.declared.open_round.OpenRound.{OpenRound}
 
 -- a call that an open round accepted
 pub data Accepted : Type 0 where
@@ -93,3 +94,7 @@ Built b = (calls : List Accepted) × Opened calls b
 -- each sound book is left by some calls
 abbrev pub EachBuilt : Type 0
 EachBuilt = (b : Book) → Sound b → Built b
+
+-- so each open round, however a program came by it, holds what some calls leave
+abbrev pub RoundsBuilt : Type 0
+RoundsBuilt = (r : OpenRound) → Built (book r)

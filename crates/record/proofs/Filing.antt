@@ -34,7 +34,7 @@ use Rattle.round.specs.Carrying.{sound_closed}
 use Rattle.record.specs.Files.{filed, Files}
 use Rattle.record.specs.Levels.{Levelled}
 use Rattle.record.specs.Writing.{Adds}
-use Rattle.record.proofs.Unique.{book_sound}
+use Rattle.round.proofs.Unique.{book_sound}
 
 -- the section of the names with these letters
 pub names_section : (which : Section) (names : List Name) (xs : List (List ℕ)) → names ≡ xs → spell (head which) (length names) ∷ names ≡ section which item xs

@@ -5,7 +5,7 @@ use Rattle.round.specs.Closed.{closed_book, closed_net}
 use Rattle.round.specs.Rounds.{book}
 use Rattle.record.specs.Sheets.{ClearedRound}
 use Rattle.record.proofs.Sheeting.{filed_best}
-use Rattle.record.proofs.Unique.{book_sound}
+use Rattle.round.proofs.Unique.{book_sound}
 use Rattle.record.proofs.sheet.clear_by.Goals as goal
 
 pub returns : goal.returns

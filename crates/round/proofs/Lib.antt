@@ -5,6 +5,7 @@ pub mod Drawn
 pub mod Pushed
 pub mod Totals
 pub mod Sides
+pub mod Left
 pub mod Standing
 pub mod Built
 pub mod Unique

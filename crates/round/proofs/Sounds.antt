@@ -41,7 +41,7 @@ sound_fresh = record {
   lines_few = omega arith;
 }
 
-below : (a b : ℕ) → (b ≤ a → ⊥) → a < b
+pub below : (a b : ℕ) → (b ≤ a → ⊥) → a < b
 below a b f = omega arith
 
 at_most : (a b : ℕ) → (b < a → ⊥) → a ≤ b
@@ -117,7 +117,7 @@ sound_member b b' s (Ok n) t k =
     })
 
 -- a holding in the place of the one with the same pair leaves the pairs as they are
-pairs_set : (hs : List Holding) (k : ℕ) (h : Holding) → k < length hs → ((d : Holding) → pair (get_or hs k d) ≡ pair h) → map pair (set hs k h) ≡ map pair hs
+pub pairs_set : (hs : List Holding) (k : ℕ) (h : Holding) → k < length hs → ((d : Holding) → pair (get_or hs k d) ≡ pair h) → map pair (set hs k h) ≡ map pair hs
 pairs_set (x ∷ hs) zero h l e = ap (λ p. p ∷ map pair hs) (sym (e x))
 pairs_set (x ∷ hs) (suc k) h l e = ap (λ ps. pair x ∷ ps) (pairs_set hs k h (omega arith) e)
 pairs_set [] k h l e = absurd (omega arith)

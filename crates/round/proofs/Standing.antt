@@ -19,22 +19,10 @@ use Rattle.book.specs.Agreement.{Circulates, BestAllotment}
 use Rattle.book.proofs.Networks.{network_flowing, graph_same}
 use Rattle.book.proofs.Sizes.{network_is_sound_lem}
 use Rattle.book.proofs.Best.{circulation_is_filled_lem, best_is_best_circulation_lem}
-use Rattle.round.specs.Uses.{Accepted, an_item, a_member, a_holding, an_offer, a_withdrawal, with_call, left_by, Opened, begun, item, member, hold, offer, withdraw, OpenLaw, Use, closed, improved, cleared, allotted, Law, RoundLaw}
+use Rattle.round.specs.Uses.{Accepted, Opened, begun, item, member, hold, offer, withdraw, OpenLaw, Use, closed, improved, cleared, allotted, Law, RoundLaw}
 use Rattle.round.proofs.Sounds.{sound_fresh, sound_item, sound_member, sound_hold, sound_offer, sound_withdraw}
+use Rattle.round.proofs.Left.{just_left}
 use Rattle.flow.proofs.Rows.{same_refl, same_trans}
-
-left : {calls : List Accepted} {b : Book} → Opened calls b → b ≡ left_by calls
-left (begun b e) = e
-left (item b' s (Ok k) u t) = t.outcome.1 ∙ ap (λ x. with_call x (an_item s)) (left u)
-left (item b' s (Err e) u t) = t.outcome ∙ left u
-left (member b' s (Ok k) u t) = t.outcome.1 ∙ ap (λ x. with_call x (a_member s)) (left u)
-left (member b' s (Err e) u t) = t.outcome ∙ left u
-left (hold b' h (Ok x) u t) = t.outcome ∙ ap (λ x. with_call x (a_holding h)) (left u)
-left (hold b' h (Err e) u t) = t.outcome ∙ left u
-left (offer b' o (Ok k) u t) = t.outcome.1 ∙ ap (λ x. with_call x (an_offer o)) (left u)
-left (offer b' o (Err e) u t) = t.outcome ∙ left u
-left (withdraw b' k (Ok x) u t) = t.outcome ∙ ap (λ x. with_call x (a_withdrawal k)) (left u)
-left (withdraw b' k (Err e) u t) = t.outcome ∙ left u
 
 opened_sound : {calls : List Accepted} {b : Book} → Opened calls b → Sound b
 opened_sound (begun b e) = subst Sound (sym e) sound_fresh
@@ -45,7 +33,7 @@ opened_sound (offer {b = b} b' o r u t) = sound_offer b b' o r t (opened_sound u
 opened_sound (withdraw {b = b} b' k r u t) = sound_withdraw b b' k r t (opened_sound u)
 
 open_law : OpenLaw
-open_law calls b u = (left u, opened_sound u)
+open_law calls b u = let s = opened_sound u in (just_left u s, s)
 
 module _ {W : Type 0} (o : Ops W) where
   improves_network : (b : Book) (s t : Net) (x : W) → NetworkOf b s → Improves o s t x → NetworkOf b t

@@ -1,5 +1,6 @@
 -- The law over whole uses of a round, from open on.
-use Rattle.std.specs.Prelude.{◌≡◌, ℕ, ◌↔◌, List, [], ◌∷◌, ◌++◌, Ok, Err, Result, slice_index_or, slice_set, None, Option}
+use Rattle.std.specs.Prelude.{◌≡◌, ℕ, ◌<◌, ◌↔◌, Bool, ◌==◌, ◌&&◌, List, [], ◌∷◌, map, length, reverse, filter_map, find, Contains, codes, slice_index_or, Some, None, Option, option_map, Ok, Err, Result}
+use Rattle.std.specs.Set.{unique_keys}
 use Rattle.tables.specs.declared.refusal.Refusal.{Refusal}
 use Rattle.worth.specs.Kinds.{Ops}
 use Rattle.worth.specs.Money.{money}
@@ -8,14 +9,14 @@ use Rattle.worth.specs.Lexicographic.{pile}
 use Rattle.network.specs.Networks.{Net, flow_in, value}
 use Rattle.search.specs.Outcomes.{Improving, Clearing}
 use Rattle.search.specs.Uses.{risen, summed}
-use Rattle.book.specs.Books.{Book, Offer, Sound, no_offer}
+use Rattle.book.specs.Books.{Book, Offer, Sound, no_offer, pair, is_of, held_by}
 use Rattle.book.specs.Allotments.{Allotment, Allowed}
 use Rattle.book.specs.Arcs.{filled, allotment_of}
 use Rattle.book.specs.Agreement.{BestAllotment}
 use Rattle.book.specs.declared.holding.Holding.{Holding}
-use Rattle.round.specs.Rounds.{book, fresh, with_items, with_members, with_holdings, with_offers}
+use Rattle.round.specs.Rounds.{book, fresh}
 use Rattle.round.specs.Naming.{TakesItem, TakesMember}
-use Rattle.round.specs.Holdings.{placed, Holds}
+use Rattle.round.specs.Holdings.{Holds}
 use Rattle.round.specs.Offering.{TakesOffer, withdrawn, Withdraws}
 use Rattle.round.specs.Closed.{Closes}
 use Rattle.round.specs.declared.open_round.OpenRound.{OpenRound}
@@ -28,18 +29,56 @@ pub data Accepted : Type 0 where
   an_offer : Offer → Accepted
   a_withdrawal : ℕ → Accepted
 
--- the book with what one accepted call brings
-abbrev pub with_call : Book → Accepted → Book
-with_call b (an_item s) = with_items b (b.items ++ s ∷ [])
-with_call b (a_member s) = with_members b (b.members ++ s ∷ [])
-with_call b (a_holding h) = with_holdings b (placed b.holdings h)
-with_call b (an_offer o) = with_offers b (b.offers ++ o ∷ [])
-with_call b (a_withdrawal k) = with_offers b (slice_set b.offers k (withdrawn (slice_index_or b.offers k no_offer)))
+-- the name that an accepted call gave an item, if it is one of item; the next four likewise
+abbrev pub item_named : Accepted → Option (List ℕ)
+item_named (an_item s) = Some s
+item_named call = None
 
--- what the accepted calls, the latest first, leave in a book that held nothing but cash
-abbrev pub left_by : List Accepted → Book
-left_by [] = fresh
-left_by (call ∷ calls) = with_call (left_by calls) call
+-- the name that it gave a member
+abbrev pub member_named : Accepted → Option (List ℕ)
+member_named (a_member s) = Some s
+member_named call = None
+
+-- the holding that it set
+abbrev pub held : Accepted → Option Holding
+held (a_holding h) = Some h
+held call = None
+
+-- the offer that it made
+abbrev pub offered : Accepted → Option Offer
+offered (an_offer o) = Some o
+offered call = None
+
+-- the number of the offer that it withdrew
+abbrev pub number_withdrawn : Accepted → Option ℕ
+number_withdrawn (a_withdrawal k) = Some k
+number_withdrawn call = None
+
+-- the same member and the same item
+abbrev pub same_pair : ℕ × ℕ → ℕ × ℕ → Bool
+same_pair p q = p.0 == q.0 && p.1 == q.1
+
+-- what accepted calls, the latest first, leave in a round that held nothing but cash
+pub record Left (calls : List Accepted) (b : Book) : Type 0 where
+  -- cash, then the names that item took, in the order of the calls
+  pub items : b.items ≡ codes "cash" ∷ reverse (filter_map item_named calls)
+  -- the names that member took, in the order of the calls
+  pub members : b.members ≡ reverse (filter_map member_named calls)
+  -- each pair of a member and an item that was held, once, in the order of the first hold for it
+  pub pairs : map pair b.holdings ≡ reverse (unique_keys same_pair (map pair (filter_map held calls)))
+  -- of each pair the units of the latest hold for it, or none where there was no hold for it
+  pub units : (m i : ℕ) → held_by b.holdings m i ≡ option_map (λ h. h.units) (find (λ h. is_of h m i) (filter_map held calls))
+  -- as many offers as were made
+  pub count : length b.offers ≡ length (filter_map offered calls)
+  -- the offers in the order made, counted from 0: offer k as it was made where no call withdrew it
+  pub standing : (k : ℕ) → k < length b.offers → (Contains (filter_map number_withdrawn calls) k → ⊥) → slice_index_or b.offers k no_offer ≡ slice_index_or (reverse (filter_map offered calls)) k no_offer
+  -- and with limit 0 where a call did
+  pub gone : (k : ℕ) → k < length b.offers → Contains (filter_map number_withdrawn calls) k → slice_index_or b.offers k no_offer ≡ withdrawn (slice_index_or (reverse (filter_map offered calls)) k no_offer)
+
+-- the book holds just what accepted calls leave: they leave no other
+pub record JustLeft (calls : List Accepted) (b : Book) : Type 0 where
+  pub left : Left calls b
+  pub alone : (c : Book) → Left calls c → c ≡ b
 
 -- a refused call is not among the accepted ones
 abbrev pub noted : {X : Type 0} → Result X Refusal → Accepted → List Accepted → List Accepted
@@ -57,7 +96,7 @@ pub data Opened : List Accepted → Book → Type 0 where
 
 -- wherever it stops, an open round holds just what the accepted calls leave in it, and its book is sound
 abbrev pub OpenLaw : Type 0
-OpenLaw = (calls : List Accepted) (b : Book) → Opened calls b → (b ≡ left_by calls) × Sound b
+OpenLaw = (calls : List Accepted) (b : Book) → Opened calls b → JustLeft calls b × Sound b
 
 -- such calls, then close, then calls of improve and clear, with the book, the network and the sum of the rises
 pub data Use {W : Type 0} (o : Ops W) : Book → Net → W → Type 0 where

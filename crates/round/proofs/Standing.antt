@@ -19,7 +19,7 @@ use Rattle.book.specs.Agreement.{Circulates, BestAllotment}
 use Rattle.book.proofs.Networks.{network_flowing, graph_same}
 use Rattle.book.proofs.Sizes.{network_is_sound_lem}
 use Rattle.book.proofs.Best.{circulation_is_filled_lem, best_is_best_circulation_lem}
-use Rattle.round.specs.Uses.{Accepted, Opened, begun, item, member, hold, offer, withdraw, OpenLaw, Use, closed, improved, cleared, allotted, Law, RoundLaw}
+use Rattle.round.specs.Uses.{Accepted, Opened, begun, item, member, hold, offer, withdraw, OpenLaw, JustLeft, Use, closed, improved, cleared, allotted, Law, RoundLaw}
 use Rattle.round.proofs.Sounds.{sound_fresh, sound_item, sound_member, sound_hold, sound_offer, sound_withdraw}
 use Rattle.round.proofs.Left.{just_left}
 use Rattle.flow.proofs.Rows.{same_refl, same_trans}
@@ -62,7 +62,13 @@ module _ {W : Type 0} (o : Ops W) where
   fresh_used : (b : Book) → Sound b → Used b (net_of b) o.none
   fresh_used b s = let f = network_is_sound_lem b s in record { sound = s; network = record { same_nodes = refl; same_arcs = same_refl (arcs_of b) }; run = networks.begun f.0 f.1 }
 
-  used : {b : Book} {n : Net} {sum : W} → Use o b n sum → Used b n sum
+  -- the book of a closed round stays the one that it was closed with
+  closed_kept : {calls : List Accepted} {b : Book} {n : Net} {sum : W} → Use o calls b n sum → JustLeft calls b
+  closed_kept (closed {calls} b' n u c) = subst (JustLeft calls) (sym c.book) (open_law calls _ u).0
+  closed_kept (improved {calls} b' t work work' r u e i) = subst (JustLeft calls) (sym e) (closed_kept u)
+  closed_kept (cleared {calls} b' t work work' r u e c) = subst (JustLeft calls) (sym e) (closed_kept u)
+
+  used : {calls : List Accepted} {b : Book} {n : Net} {sum : W} → Use o calls b n sum → Used b n sum
   used (closed {b = b} b' n u c) = subst₂ (λ x m. Used x m o.none) (sym c.book) (sym c.net) (fresh_used b (opened_sound u))
   used (improved {b} {s} {sum} b' t work work' r u e i) =
       let h = used u in
@@ -100,11 +106,13 @@ module _ {W : Type 0} {o : Ops W} (laws : Laws o) where
       (f.fills, f.allowed)
 
   pub law_holds : Law o
-  law_holds b n sum u =
+  law_holds calls b n sum u =
       let h = used o u in
       let st = networks-law.law_holds laws n sum h.run in
       let f = filled_by b n sum h in
       record {
+        kept = closed_kept o u;
+        sound = h.sound;
         fills = f.fills;
         allowed = f.allowed;
         worth = ap (value o) (sym f.fills) ∙ st.worth;

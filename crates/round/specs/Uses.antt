@@ -98,20 +98,23 @@ pub data Opened : List Accepted → Book → Type 0 where
 abbrev pub OpenLaw : Type 0
 OpenLaw = (calls : List Accepted) (b : Book) → Opened calls b → JustLeft calls b × Sound b
 
--- such calls, then close, then calls of improve and clear, with the book, the network and the sum of the rises
-pub data Use {W : Type 0} (o : Ops W) : Book → Net → W → Type 0 where
-  closed : {calls : List Accepted} {b : Book} (b' : Book) (n : Net) → Opened calls b → Closes b b' n → Use o b' n o.none
-  improved : {b : Book} {s : Net} {sum : W} (b' : Book) (t : Net) (work work' : List W) (r : Result (Option W) Refusal) → Use o b s sum → b' ≡ b → Improving o s t work work' r → Use o b' t (o.plus sum (risen o r))
-  cleared : {b : Book} {s : Net} {sum : W} (b' : Book) (t : Net) (work work' : List W) (r : Result W Refusal) → Use o b s sum → b' ≡ b → Clearing o s t work work' r → Use o b' t (o.plus sum (summed o r))
+-- such calls, then close, then calls of improve and clear, with the calls accepted before close, the book, the network and the sum of the rises
+pub data Use {W : Type 0} (o : Ops W) : List Accepted → Book → Net → W → Type 0 where
+  closed : {calls : List Accepted} {b : Book} (b' : Book) (n : Net) → Opened calls b → Closes b b' n → Use o calls b' n o.none
+  improved : {calls : List Accepted} {b : Book} {s : Net} {sum : W} (b' : Book) (t : Net) (work work' : List W) (r : Result (Option W) Refusal) → Use o calls b s sum → b' ≡ b → Improving o s t work work' r → Use o calls b' t (o.plus sum (risen o r))
+  cleared : {calls : List Accepted} {b : Book} {s : Net} {sum : W} (b' : Book) (t : Net) (work work' : List W) (r : Result W Refusal) → Use o calls b s sum → b' ≡ b → Clearing o s t work work' r → Use o calls b' t (o.plus sum (summed o r))
 
 -- the allotment of a book whose network is n: the flows on the lines
 abbrev pub allotted : Book → Net → Allotment
 allotted b n = allotment_of b (flow_in n)
 
 module _ {W : Type 0} (o : Ops W) where
-  -- what holds wherever a use stops after close: the allotment fills the network, is allowed, and is worth the sum of the rises;
+  -- what holds wherever a use stops after close: the round holds still just what the calls accepted before close leave, and its book is sound;
+  -- the allotment fills the network, is allowed, and is worth the sum of the rises;
   -- improve, unless refused, answers best exactly where every allowed allotment is worth at most as much, and clear, unless refused, ends there
-  pub record Standing (b : Book) (n : Net) (sum : W) : Type 0 where
+  pub record Standing (calls : List Accepted) (b : Book) (n : Net) (sum : W) : Type 0 where
+    pub kept : JustLeft calls b
+    pub sound : Sound b
     pub fills : n ≡ filled b (allotted b n)
     pub allowed : Allowed b (allotted b n)
     pub worth : value o (filled b (allotted b n)) ≡ sum
@@ -119,7 +122,7 @@ module _ {W : Type 0} (o : Ops W) where
     pub ends : (t : Net) (work work' : List W) (rise : W) → Clearing o n t work work' (Ok rise) → BestAllotment o b (allotted b t)
 
   abbrev pub Law : Type 0
-  Law = (b : Book) (n : Net) (sum : W) → Use o b n sum → Standing b n sum
+  Law = (calls : List Accepted) (b : Book) (n : Net) (sum : W) → Use o calls b n sum → Standing calls b n sum
 
 -- what holds over whole uses, by the kinds that the exchange clears with: the calls of an open round know no kind, so it stands on them
 -- for these two, and on close, improve and clear for any

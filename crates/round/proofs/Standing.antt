@@ -19,6 +19,7 @@ use Rattle.book.specs.Agreement.{Circulates, BestAllotment}
 use Rattle.book.proofs.Networks.{network_flowing, graph_same}
 use Rattle.book.proofs.Sizes.{network_is_sound_lem}
 use Rattle.book.proofs.Best.{circulation_is_filled_lem, best_is_best_circulation_lem}
+use Rattle.round.specs.Piles.{Piled, money_alone, weeks_alone, piled, ops_of}
 use Rattle.round.specs.Uses.{Accepted, Opened, begun, item, member, hold, offer, withdraw, OpenLaw, JustLeft, Use, closed, improved, cleared, allotted, Law, RoundLaw}
 use Rattle.round.proofs.Sounds.{sound_fresh, sound_item, sound_member, sound_hold, sound_offer, sound_withdraw}
 use Rattle.round.proofs.Left.{just_left}
@@ -120,5 +121,11 @@ module _ {W : Type 0} {o : Ops W} (laws : Laws o) where
         ends = λ t work work' rise c. (filled_by b t (o.plus sum rise) (used o (cleared b t work work' (Ok rise) u refl c))).best.1 (st.ends t work work' rise c);
       }
 
+-- every kind that is piled up from money and weeks keeps the laws of a kind
+laws_of : (kind : Piled) → Laws (ops_of kind)
+laws_of money_alone = money_laws
+laws_of weeks_alone = weeks_laws
+laws_of (piled a b) = pile_laws (laws_of a) (laws_of b)
+
 pub round_law : RoundLaw
-round_law = (open_law, law_holds money_laws, law_holds (pile_laws money_laws weeks_laws))
+round_law = (open_law, λ k. law_holds (laws_of k))

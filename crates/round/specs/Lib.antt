@@ -6,6 +6,7 @@ pub mod Offering
 pub mod Carried
 pub mod Closed
 pub mod Questions
+pub mod Piles
 pub mod Uses
 pub mod Views
 pub mod Carrying

@@ -3,9 +3,6 @@ use Rattle.std.specs.Prelude.{◌≡◌, ℕ, ◌<◌, ◌↔◌, Bool, ◌==◌
 use Rattle.std.specs.Set.{unique_keys}
 use Rattle.tables.specs.declared.refusal.Refusal.{Refusal}
 use Rattle.worth.specs.Kinds.{Ops}
-use Rattle.worth.specs.Money.{money}
-use Rattle.worth.specs.Weeks.{weeks}
-use Rattle.worth.specs.Lexicographic.{pile}
 use Rattle.network.specs.Networks.{Net, flow_in, value}
 use Rattle.search.specs.Outcomes.{Improving, Clearing}
 use Rattle.search.specs.Uses.{risen, summed}
@@ -19,6 +16,7 @@ use Rattle.round.specs.Naming.{TakesItem, TakesMember}
 use Rattle.round.specs.Holdings.{Holds}
 use Rattle.round.specs.Offering.{TakesOffer, withdrawn, Withdraws}
 use Rattle.round.specs.Closed.{Closes}
+use Rattle.round.specs.Piles.{Piled, ops_of}
 use Rattle.round.specs.declared.open_round.OpenRound.{OpenRound}
 
 -- a call that an open round accepted
@@ -124,10 +122,10 @@ module _ {W : Type 0} (o : Ops W) where
   abbrev pub Law : Type 0
   Law = (calls : List Accepted) (b : Book) (n : Net) (sum : W) → Use o calls b n sum → Standing calls b n sum
 
--- what holds over whole uses, by the kinds that the exchange clears with: the calls of an open round know no kind, so it stands on them
--- for these two, and on close, improve and clear for any
+-- what holds over whole uses: the calls of an open round know no kind, so it stands on them for each kind that is piled up from money and weeks,
+-- and on close, improve and clear for any
 abbrev pub RoundLaw : Type 0
-RoundLaw = OpenLaw × Law money × Law (pile money weeks)
+RoundLaw = OpenLaw × ((kind : Piled) → Law (ops_of kind))
 
 -- some calls from open on leave this book
 abbrev pub Built : Book → Type 0

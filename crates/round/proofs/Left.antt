@@ -1,5 +1,5 @@
 -- What the accepted calls leave in an open round.
-use Rattle.std.proofs.Common.{◌≡◌, ℕ, suc, ◌+◌, ◌<◌, ◌⊎◌, Bool, true, false, cond, ◌&&◌, ◌||◌, eqb, List, [], ◌∷◌, ◌++◌, map, length, reverse, get_or, set, Some, None, Option, sym, refl, ap, ap₂, ◌∙◌, subst, inl, inr, one-add, arith}
+use Rattle.std.proofs.Common.{◌≡◌, ℕ, suc, ◌+◌, ◌<◌, ◌⊎◌, ◌↔◌, Bool, true, false, cond, ◌&&◌, ◌||◌, eqb, List, [], ◌∷◌, ◌++◌, map, length, reverse, get_or, set, Some, None, Option, sym, refl, ap, ap₂, ◌∙◌, subst, inl, inr, one-add, arith}
 use Rattle.std.specs.Prelude.{codes, filter_map, find, Contains, is_some, Ok, Err}
 use Rattle.std.specs.List.{list_any}
 use Rattle.std.specs.Option.{option_map}
@@ -16,7 +16,7 @@ use Rattle.book.proofs.Holdings.{Apart, held_step, held_none, is_turned, same_pa
 use Rattle.terms.proofs.Spots.{spot_some, no_none}
 use Rattle.round.specs.Holdings.{put_at, placed}
 use Rattle.round.specs.Offering.{withdrawn}
-use Rattle.tables.proofs.Firsts.{not_first}
+use Rattle.tables.proofs.Firsts.{not_first, not_rest}
 use Rattle.round.specs.Rounds.{fresh, with_items, with_members, with_holdings, with_offers}
 use Rattle.round.specs.Uses.{Accepted, an_item, a_member, a_holding, an_offer, a_withdrawal, item_named, member_named, held, offered, number_withdrawn, same_pair, Left, JustLeft, Opened, begun, item, member, hold, offer, withdraw}
 use Rattle.round.proofs.Sounds.{pairs_set, below}
@@ -142,6 +142,7 @@ pub record Offered (made : List Offer) (back : List ℕ) (os : List Offer) : Typ
   pub count : length os ≡ length made
   pub standing : (k : ℕ) → k < length os → (Contains back k → ⊥) → get_or os k no_offer ≡ get_or (reverse made) k no_offer
   pub gone : (k : ℕ) → k < length os → Contains back k → get_or os k no_offer ≡ withdrawn (get_or (reverse made) k no_offer)
+  pub limits : (k : ℕ) → k < length os → (Contains back k → ⊥) → 0 < (get_or os k no_offer).limit
   -- an offer was made before it was withdrawn
   pub before : (k : ℕ) → Contains back k → k < length os
 
@@ -152,14 +153,18 @@ made_before made o k l = ap (λ xs. get_or xs k no_offer) (reverse_onto made o [
 made_last : (made : List Offer) (o : Offer) (k : ℕ) → length made ≡ k → get_or (reverse (o ∷ made)) k no_offer ≡ o
 made_last made o k e = ap (λ xs. get_or xs k no_offer) (reverse_onto made o []) ∙ get_or_push (reverse made) o no_offer k (length-reverse made ∙ e)
 
-pub one_more : (made : List Offer) (back : List ℕ) (os : List Offer) (o : Offer) → Offered made back os → Offered (o ∷ made) back (os ++ o ∷ [])
-one_more made back os o p = record {
+pub one_more : (made : List Offer) (back : List ℕ) (os : List Offer) (o : Offer) → 0 < o.limit → Offered made back os → Offered (o ∷ made) back (os ++ o ∷ [])
+one_more made back os o some p = record {
   count = omega (arith, longer, p.count);
   standing = λ k l f. elim (cases_lt k (length os)) [
     | inl e ↦ get_or_append_left os (o ∷ []) no_offer k e ∙ p.standing k e f ∙ sym (made_before made o k (omega (arith, p.count)))
     | inr e ↦ let n : length os ≡ k = omega (arith, longer) in get_or_push os o no_offer k n ∙ sym (made_last made o k (sym p.count ∙ n))
   ];
   gone = λ k l c. let e = p.before k c in get_or_append_left os (o ∷ []) no_offer k e ∙ p.gone k e c ∙ ap withdrawn (sym (made_before made o k (omega (arith, p.count))));
+  limits = λ k l f. elim (cases_lt k (length os)) [
+    | inl e ↦ subst (λ x. 0 < x.limit) (sym (get_or_append_left os (o ∷ []) no_offer k e)) (p.limits k e f)
+    | inr e ↦ subst (λ x. 0 < x.limit) (sym (get_or_push os o no_offer k (omega (arith, longer)))) some
+  ];
   before = λ k c. omega (arith, longer, p.before k c);
 }
   where
@@ -188,6 +193,10 @@ one_back made back os k l p = record {
     | inl e ↦ subst (λ i. get_or after i no_offer ≡ withdrawn (get_or (reverse made) i no_offer)) e (get_or-set_same os k _ no_offer l ∙ limited p k l)
     | inr n ↦ get_or-set_other os k j _ no_offer (λ e. n (sym e)) ∙ p.gone j (omega (arith, same)) (Contains-tail k back j n c)
   ];
+  limits = λ j m f. elim (cases_eq k j) [
+    | inl e ↦ absurd (f (0, omega arith, e))
+    | inr n ↦ subst (λ x. 0 < x.limit) (sym (get_or-set_other os k j _ no_offer (λ e. n (sym e)))) (p.limits j (omega (arith, same)) (λ c. f (suc c.0, omega (arith, c.1), c.2)))
+  ];
   before = λ j c. elim (cases_eq k j) [ inl e ↦ omega (arith, same) | inr n ↦ omega (arith, same, p.before j (Contains-tail k back j n c)) ];
 }
   where
@@ -212,7 +221,7 @@ grown_fresh = record {
   members = refl;
   pairs = refl;
   units = λ m i. refl;
-  offers = record { count = refl; standing = λ k l f. absurd (omega arith); gone = λ k l c. absurd (omega arith); before = λ k c. omega (arith, c.1) };
+  offers = record { count = refl; standing = λ k l f. absurd (omega arith); gone = λ k l c. absurd (omega arith); limits = λ k l f. absurd (omega arith); before = λ k c. omega (arith, c.1) };
 }
 
 grown_item : (calls : List Accepted) (b : Book) (s : List ℕ) → Grown calls b → Grown (an_item s ∷ calls) (with_items b (b.items ++ s ∷ []))
@@ -242,13 +251,13 @@ grown_hold calls b h g = record {
   offers = g.offers;
 }
 
-grown_offer : (calls : List Accepted) (b : Book) (o : Offer) → Grown calls b → Grown (an_offer o ∷ calls) (with_offers b (b.offers ++ o ∷ []))
-grown_offer calls b o g = record {
+grown_offer : (calls : List Accepted) (b : Book) (o : Offer) → 0 < o.limit → Grown calls b → Grown (an_offer o ∷ calls) (with_offers b (b.offers ++ o ∷ []))
+grown_offer calls b o some g = record {
   items = g.items;
   members = g.members;
   pairs = g.pairs;
   units = g.units;
-  offers = one_more (filter_map offered calls) (filter_map number_withdrawn calls) b.offers o g.offers;
+  offers = one_more (filter_map offered calls) (filter_map number_withdrawn calls) b.offers o some g.offers;
 }
 
 grown_withdraw : (calls : List Accepted) (b : Book) (k : ℕ) → k < length b.offers → Grown calls b → Grown (a_withdrawal k ∷ calls) (with_offers b (set b.offers k (withdrawn (get_or b.offers k no_offer))))
@@ -268,13 +277,17 @@ grown (member {calls} {b} b' s (Ok k) u t) = subst (Grown (a_member s ∷ calls)
 grown (member {calls} {b} b' s (Err e) u t) = subst (Grown calls) (sym t.outcome) (grown u)
 grown (hold {calls} {b} b' h (Ok x) u t) = subst (Grown (a_holding h ∷ calls)) (sym t.outcome) (grown_hold calls b h (grown u))
 grown (hold {calls} {b} b' h (Err e) u t) = subst (Grown calls) (sym t.outcome) (grown u)
-grown (offer {calls} {b} b' o (Ok k) u t) = subst (Grown (an_offer o ∷ calls)) (sym t.outcome.1) (grown_offer calls b o (grown u))
+grown (offer {calls} {b} b' o (Ok k) u t) = subst (Grown (an_offer o ∷ calls)) (sym t.outcome.1) (grown_offer calls b o (below 0 o.limit (λ l. not_first (not_rest (not_rest t.refused)) (inl (inl (omega arith))))) (grown u))
 grown (offer {calls} {b} b' o (Err e) u t) = subst (Grown calls) (sym t.outcome) (grown u)
 grown (withdraw {calls} {b} b' k (Ok x) u t) = subst (Grown (a_withdrawal k ∷ calls)) (sym t.outcome) (grown_withdraw calls b k (below k (length b.offers) (not_first t.refused)) (grown u))
 grown (withdraw {calls} {b} b' k (Err e) u t) = subst (Grown calls) (sym t.outcome) (grown u)
 
-left : {calls : List Accepted} {b : Book} → Opened calls b → Left calls b
-left u = let g = grown u in record { items = g.items; members = g.members; pairs = g.pairs; units = g.units; count = g.offers.count; standing = g.offers.standing; gone = g.offers.gone }
+left : {calls : List Accepted} {b : Book} → Grown calls b → Left calls b
+left g = record { items = g.items; members = g.members; pairs = g.pairs; units = g.units; count = g.offers.count; standing = g.offers.standing; gone = g.offers.gone }
+
+-- an offer has limit 0 exactly where it was withdrawn
+limit_none : {made : List Offer} {back : List ℕ} {os : List Offer} → Offered made back os → (k : ℕ) → k < length os → ((get_or os k no_offer).limit ≡ 0) ↔ Contains back k
+limit_none {back = back} {os = os} p k l = (λ e. elim (among back k) [ inl c ↦ c | inr f ↦ absurd (omega (arith, p.limits k l f, e)) ], λ c. ap (λ o. o.limit) (p.gone k l c))
 
 -- offers of the same calls are the same
 same_offers : (calls : List Accepted) (b c : Book) → Left calls b → Left calls c → c.offers ≡ b.offers
@@ -309,4 +322,7 @@ same_book calls b c s p q = λ j. record { items = items j; members = members j;
     offers = same_offers calls b c p q
 
 pub just_left : {calls : List Accepted} {b : Book} → Opened calls b → Sound b → JustLeft calls b
-just_left {calls} {b} u s = let p = left u in record { left = p; alone = λ c q. same_book calls b c s p q }
+just_left {calls} {b} u s =
+    let g = grown u in
+    let p = left g in
+    record { left = p; alone = λ c q. same_book calls b c s p q; limits = limit_none g.offers }

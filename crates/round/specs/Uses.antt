@@ -77,6 +77,8 @@ pub record Left (calls : List Accepted) (b : Book) : Type 0 where
 pub record JustLeft (calls : List Accepted) (b : Book) : Type 0 where
   pub left : Left calls b
   pub alone : (c : Book) → Left calls c → c ≡ b
+  -- an offer has limit 0 exactly where one of them withdrew it
+  pub limits : (k : ℕ) → k < length b.offers → ((slice_index_or b.offers k no_offer).limit ≡ 0) ↔ Contains (filter_map number_withdrawn calls) k
 
 -- a refused call is not among the accepted ones
 abbrev pub noted : {X : Type 0} → Result X Refusal → Accepted → List Accepted → List Accepted

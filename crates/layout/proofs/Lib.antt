@@ -10,3 +10,4 @@ pub mod Renders
 pub mod Finds
 pub mod Outcomes
 pub mod Recorded
+pub mod Earliest

@@ -1,10 +1,12 @@
--- The text of a record.
-use Rattle.std.specs.Prelude.{◌≡◌, ℕ, ◌↔◌, List, [], ◌∷◌, ◌++◌, map, length}
+-- The text of a record, and the earliest faulty line of one that is not.
+use Rattle.std.specs.Prelude.{◌≡◌, ℕ, ◌+◌, ◌<◌, ◌≤◌, ◌⊎◌, ◌↔◌, List, [], ◌∷◌, ◌++◌, map, length}
+use Rattle.std.specs.List.{AllByRecursion}
+use Rattle.text.specs.Parts.{Free}
 use Rattle.text.specs.declared.section.Section.{Section}
 use Rattle.text.specs.declared.section.Section.TheVariants.{Kinds, Items, Members, Holdings, Offers, Levels}
 use Rattle.layout.specs.Records.{Kind, words, parts, OfferWithUnits, Contents, Valid}
 use Rattle.layout.specs.Layout.{Slot, head, item, member, holding, offer, give, get, level, HeadOfOffer, Says, spell}
-use Rattle.layout.specs.Runs.{Reads}
+use Rattle.layout.specs.Runs.{Reads, Refused}
 
 -- byte 10 ends each line
 abbrev pub ended : List (List ℕ) → List ℕ
@@ -45,3 +47,13 @@ ReadsRecords = (text : List ℕ) (x : Contents) → Reads text x ↔ (text ≡ r
 -- no two texts read alike
 abbrev pub OneText : Type 0
 OneText = (text other : List ℕ) (x : Contents) → Reads text x → Reads other x → text ≡ other
+
+-- the earliest faulty line decides: what follows it plays no part, so each text with the same lines down to it has the same refusal, unless it is
+-- too long (which gets line 0)
+abbrev pub EarliestDecides : Type 0
+EarliestDecides = (ls : List (List ℕ)) (rest other : List ℕ) (n line : ℕ) → AllByRecursion (Free 10) ls → Refused (ended ls ++ rest) n line → 0 < line → line ≤ length ls → length (ended ls ++ other) ≤ 32768 → Refused (ended ls ++ other) n line
+
+-- no line above it is at fault: cut anywhere above its faulty line, a text lacks just its next line, or it is whole (where something followed the
+-- last line)
+abbrev pub CutBeforeFault : Type 0
+CutBeforeFault = (ls : List (List ℕ)) (rest : List ℕ) (n line : ℕ) → AllByRecursion (Free 10) ls → Refused (ended ls ++ rest) n line → length ls < line → Refused (ended ls) 13 (length ls + 1) ⊎ ((x : Contents) × Reads (ended ls) x)

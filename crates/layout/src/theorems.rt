@@ -1,5 +1,5 @@
 ghost use Rattle.layout.specs.Records.{AllRecorded};
-ghost use Rattle.layout.specs.Render.{ReadsRecords, OneText};
+ghost use Rattle.layout.specs.Render.{ReadsRecords, OneText, EarliestDecides, CutBeforeFault};
 ghost use Rattle.layout.specs.Runs.{OneOutcome, SomeOutcome};
 
 // A text reads as contents exactly when it is their record and they keep the rules; so no two texts read alike.
@@ -8,10 +8,13 @@ pub fn reading_stands()
     ensures apart { OneText }
 {}
 
-// Each text comes to one outcome: contents that it reads as, or one refusal at one line.
+// Each text comes to one outcome: contents that it reads as, or one refusal at one line. The earliest faulty line decides: what follows it plays no
+// part, and no line above it is at fault.
 pub fn outcomes_stand()
     ensures some { SomeOutcome }
     ensures one { OneOutcome }
+    ensures earliest { EarliestDecides }
+    ensures cut { CutBeforeFault }
 {}
 
 // Each round, allotment and levels have their record.

@@ -9,6 +9,7 @@ use record::sheet::clear_sheet;
 use std::alloc::Global;
 use std::io;
 use std::io::{Read, Write};
+use text::bounds::MOST_BYTES;
 
 // Reads a record and prints what check answers of it.
 pub fn run_check<R: Read + Drop, W: Write>(
@@ -32,7 +33,7 @@ pub fn run_clear<R: Read + Drop, W: Write>(
 {
     let text = read_text(input, alloc)?;
     // no record is longer
-    let mut page = [0; 32_768];
+    let mut page = [0; MOST_BYTES];
     match clear_sheet(&text, &mut page) {
         Ok(length) => output.write_all(&page[..length]),
         Err(fault) => writeln!(output, "{}", Line::Refused(fault)),

@@ -2,6 +2,7 @@
 #![tactic(auto)]
 
 pub mod agreement;
+pub mod bounds;
 pub mod holding;
 pub mod line;
 pub mod side;

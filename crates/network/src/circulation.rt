@@ -1,6 +1,7 @@
 ghost use Rattle.std.specs.Prelude.{◌≡◌, ℕ, ◌<◌, Decides, slice_index_or};
 ghost use Rattle.network.specs.Circulations.{Circulates, idle, through};
 
+use super::bounds::MOST_NODES;
 use super::readable::Network;
 
 // What flows into a node, and what flows out of it.
@@ -11,10 +12,10 @@ struct Throughput {
 }
 
 // What flows through each node that a network can have.
-fn throughputs<N: Network>(net: &N) -> [Throughput; 272]
+fn throughputs<N: Network>(net: &N) -> [Throughput; MOST_NODES]
     ensures { (v : ℕ) → v < 272 → slice_index_or result v idle ≡ through (N.Network.net net.now) v }
 {
-    let mut rows = [Throughput::default(); 272];
+    let mut rows = [Throughput::default(); MOST_NODES];
     for arc in net.arcs() {
         rows[arc.to as usize].inflow += arc.flow;
         rows[arc.from as usize].outflow += arc.flow;

@@ -2,6 +2,7 @@
 #![tactic(auto)]
 
 pub mod arcs;
+pub mod bounds;
 pub mod circulation;
 pub mod improvable;
 pub mod potentials;

@@ -2,6 +2,7 @@ ghost use Rattle.std.specs.Prelude.{ℕ, ◌<◌, ◌≤◌, length, Decides};
 ghost use Rattle.network.specs.Networks.{SoundArc};
 ghost use Rattle.network.specs.Potentials.{potential, FitsOn, Fitted};
 
+use super::bounds::LARGEST_SIZE;
 use super::readable::Network;
 use flow::arc::Arc;
 use worth::kind::Worth;
@@ -11,7 +12,7 @@ use worth::kind::Worth;
 fn are_small<W: Worth>(potentials: &[W]) -> bool
     ensures { Decides result ((v : ℕ) → v < length potentials.now → W.ops.size (potential W.ops potentials.now v) ≤ 1000000) }
 {
-    potentials.iter().all(|p| p.is_within(1_000_000))
+    potentials.iter().all(|p| p.is_within(LARGEST_SIZE))
 }
 
 // Whether the potentials at an arc's ends fit it.

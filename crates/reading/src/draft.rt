@@ -8,6 +8,8 @@ ghost use Rattle.reading.specs.Levels.{Flat};
 
 use super::kind::Kind;
 use super::level::Level;
+use book::bounds::MOST_LINES;
+use network::bounds::MOST_NODES;
 use round::open_round::OpenRound;
 use tables::table::Table;
 use text::reader::Reader;
@@ -26,8 +28,8 @@ pub(crate) struct Draft<'a> {
     reader: Reader<'a>,
     pub(crate) kind: Kind,
     pub(crate) round: OpenRound,
-    pub(crate) units: Table<u32, 256>,
-    pub(crate) levels: Table<Level, 272>,
+    pub(crate) units: Table<u32, MOST_LINES>,
+    pub(crate) levels: Table<Level, MOST_NODES>,
     ghost counted: { length units ≡ line_count (book round).offers },
     ghost flat: { AllByRecursion (Flat (kind_as kind)) levels } by { Prim.hlevel props },
 }

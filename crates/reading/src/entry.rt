@@ -6,6 +6,8 @@ ghost use Rattle.reading.specs.Entries.{section_of, most_of, CountTested, FairCo
 ghost use Rattle.reading.specs.Reading.{LineRead};
 
 use super::next::next_head;
+use book::bounds::{MOST_HOLDINGS, MOST_ITEMS, MOST_MEMBERS, MOST_OFFERS};
+use network::bounds::MOST_NODES;
 use tables::refusal::Refusal;
 use text::fault::Fault;
 use text::reader::Reader;
@@ -40,11 +42,11 @@ impl Entry {
         ensures { result ≡ most_of self }
     {
         match self {
-            Entry::Item => 16,
-            Entry::Member => 32,
-            Entry::Holding => 128,
-            Entry::Offer => 64,
-            Entry::Level => 272,
+            Entry::Item => MOST_ITEMS as u64,
+            Entry::Member => MOST_MEMBERS as u64,
+            Entry::Holding => MOST_HOLDINGS as u64,
+            Entry::Offer => MOST_OFFERS as u64,
+            Entry::Level => MOST_NODES as u64,
         }
     }
 

@@ -10,6 +10,7 @@ ghost use Rattle.reading.specs.Reading.{ReadNext, LineRead};
 use super::kind::Kind;
 use super::level::Level;
 use super::next::{Numbered, next_row};
+use network::bounds::LARGEST_SIZE;
 use tables::refusal::Refusal;
 use text::fault::Fault;
 use text::reader::Reader;
@@ -43,11 +44,11 @@ impl Kind {
     {
         let first = Money { cents: level.cents };
         match self {
-            Kind::Money => first.is_within(1_000_000),
+            Kind::Money => first.is_within(LARGEST_SIZE),
             Kind::MoneyThenWeeks => {
                 let second = Weeks { count: level.weeks };
                 let pair = Lexicographic { first, second };
-                pair.is_within(1_000_000)
+                pair.is_within(LARGEST_SIZE)
             }
         }
     }

@@ -6,6 +6,7 @@ ghost use Rattle.reading.specs.Offers.{head_said, FairHead, HeadTested};
 ghost use Rattle.reading.specs.Reading.{LineRead};
 
 use super::next::next_row;
+use book::bounds::{MOST_LINES, MOST_UNITS};
 use tables::refusal::Refusal;
 use text::fault::{Fault, at_line};
 use text::reader::Reader;
@@ -23,7 +24,7 @@ pub(crate) struct OfferHead {
 fn is_overfull(lines: u64, gives: u64, gets: u64) -> bool
     ensures { Decides result (256 < lines + (gives + gets)) }
 {
-    lines.saturating_add(gives).saturating_add(gets) > 256
+    lines.saturating_add(gives).saturating_add(gets) > MOST_LINES as u64
 }
 
 // The head that has these numbers, or the first rule that they break.
@@ -38,7 +39,7 @@ fn test_head(numbers: [u64; 4], members: u32, lines: usize) -> Result<OfferHead,
     if is_overfull(lines as u64, gives, gets) {
         return Err(Refusal::Full);
     }
-    if limit > 1000 {
+    if limit > u64::from(MOST_UNITS) {
         return Err(Refusal::Bounds);
     }
     if gives == 0 || gets == 0 {

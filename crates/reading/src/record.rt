@@ -10,6 +10,8 @@ ghost use Rattle.reading.specs.Levels.{Flat};
 
 use super::kind::Kind;
 use super::level::Level;
+use book::bounds::MOST_LINES;
+use network::bounds::MOST_NODES;
 use round::open_round::OpenRound;
 use tables::table::Table;
 
@@ -22,8 +24,8 @@ mod parse;
 pub struct Record {
     kind: Kind,
     round: OpenRound,
-    units: Table<u32, 256>,
-    levels: Table<Level, 272>,
+    units: Table<u32, MOST_LINES>,
+    levels: Table<Level, MOST_NODES>,
     ghost valid: { ∥ Valid (held kind (book round) units levels) ∥₁ },
     ghost counted: { length units ≡ line_count (book round).offers },
     ghost flat: { AllByRecursion (Flat (kind_as kind)) levels } by { Prim.hlevel props },

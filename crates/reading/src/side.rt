@@ -4,6 +4,7 @@ ghost use Rattle.layout.specs.Records.{Contents, LineWithUnits, line_of};
 ghost use Rattle.reading.specs.Offers.{FairBelow, LineTested, Part, Within, LineAdded, LinesRead, LinesStop};
 
 use super::next::next_row;
+use book::bounds::{HIGHEST_PRICE, MOST_LINES, MOST_UNITS};
 use book::line::Line;
 use tables::refusal::Refusal;
 use tables::table::Table;
@@ -37,10 +38,10 @@ impl Side<'_> {
         if item >= u64::from(self.items) {
             return Err(Refusal::Unknown);
         }
-        if limit < 1 || limit > 1000 || units > 1000 {
+        if limit < 1 || limit > u64::from(MOST_UNITS) || units > u64::from(MOST_UNITS) {
             return Err(Refusal::Bounds);
         }
-        if price > 1_000_000 {
+        if price > u64::from(HIGHEST_PRICE) {
             return Err(Refusal::Price);
         }
         let line = Line {
@@ -74,8 +75,8 @@ impl Side<'_> {
         self,
         reader: &mut Reader<'_>,
         n: u32,
-        units: &mut Table<u32, 256>,
-    ) -> Result<Table<Line, 256>, Fault>
+        units: &mut Table<u32, MOST_LINES>,
+    ) -> Result<Table<Line, MOST_LINES>, Fault>
         requires { length units.old + n ≤ 256 }
         ensures { MatchResult result (λ lines. LinesRead self.entry.items self.entry.other.now n lines units.old units.new reader.old reader.new) (λ f. LinesStop self.entry.items self.entry.other.now n reader.old f) }
     {

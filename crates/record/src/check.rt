@@ -12,6 +12,8 @@ ghost use Rattle.record.specs.Evidence.{Evidence};
 use super::levelled::Levelled;
 use super::passed::{OfferResult, Passed, Total};
 use super::record_network::draw;
+use book::bounds::MOST_OFFERS;
+use network::bounds::MOST_NODES;
 use network::circulation::is_circulation;
 use network::potentials::fits;
 use reading::kind::Kind;
@@ -26,7 +28,7 @@ use worth::money::Money;
 use worth::money_then_weeks::MoneyThenWeeks;
 
 // The worths that levels stand for, of which a record has at most one for each of 272 nodes.
-fn worths<W: Levelled>(levels: &[Level]) -> Table<W, 272>
+fn worths<W: Levelled>(levels: &[Level]) -> Table<W, MOST_NODES>
     requires { length levels.now ≤ 272 }
     ensures { result ≡ map W.Levelled.worth levels.now }
 {
@@ -38,7 +40,7 @@ fn worths<W: Levelled>(levels: &[Level]) -> Table<W, 272>
 }
 
 // Each offer's payoff and weeks got, which a closed round answers by the offer's number.
-fn results<W: Worth>(round: &ClosedRound<W>) -> Table<OfferResult, 64>
+fn results<W: Worth>(round: &ClosedRound<W>) -> Table<OfferResult, MOST_OFFERS>
     ensures { result ≡ map_with result_of (closed_book round.now).offers (closed_allotment round.now) }
 {
     let mut results = Table::default();

@@ -7,6 +7,7 @@ ghost use Rattle.record.specs.Files.{Files};
 
 use super::levelled::Levelled;
 use draft::Draft;
+use network::bounds::LARGEST_SIZE;
 use network::readable::Network;
 use round::closed_round::ClosedRound;
 use tables::refusal::Refusal;
@@ -21,7 +22,7 @@ mod sections;
 fn is_over<W: Worth>(worths: &[W]) -> bool
     ensures { Decides result (Any (λ w. 1000000 < W.Worth.ops.size w) worths.now) }
 {
-    worths.iter().any(|w| !w.is_within(1_000_000))
+    worths.iter().any(|w| !w.is_within(LARGEST_SIZE))
 }
 
 // Writes the record of a round, its allotment and levels to the start of a page, and answers its length.

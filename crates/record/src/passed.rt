@@ -1,3 +1,4 @@
+use book::bounds::MOST_OFFERS;
 use tables::table::Table;
 use worth::money::Money;
 use worth::money_then_weeks::MoneyThenWeeks;
@@ -52,5 +53,5 @@ impl From<(i64, u32)> for OfferResult {
 #[derive(Drop)]
 pub struct Passed {
     pub worth: Total,
-    pub offers: Table<OfferResult, 64>,
+    pub offers: Table<OfferResult, MOST_OFFERS>,
 }

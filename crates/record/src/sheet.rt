@@ -8,6 +8,7 @@ ghost use Rattle.record.specs.Sheets.{Sheet, ClearedRound, Clearing};
 
 use super::file::file;
 use super::levelled::Levelled;
+use network::bounds::MOST_NODES;
 use reading::kind::Kind;
 use reading::record::Record;
 use round::open_round::OpenRound;
@@ -35,7 +36,7 @@ fn clear_by<W: Levelled>(round: OpenRound, page: &mut [u8]) -> Result<usize, Ref
     requires { 272 * type_size W.row < 2 ^ 63 }
     ensures { ClearedRound W.Levelled.sort (book round) page.old page.new result }
 {
-    let mut work = [W::none(); 272];
+    let mut work = [W::none(); MOST_NODES];
     let mut closed = round.close::<W>();
     closed.clear(&mut work)?;
     file(&closed, &work, page)

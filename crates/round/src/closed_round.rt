@@ -3,6 +3,7 @@ ghost use Rattle.round.specs.Rounds.{book};
 
 use super::open_round::OpenRound;
 use flow::arc::Arc;
+use network::bounds::MOST_ARCS;
 use std::marker::PhantomData;
 use tables::table::Table;
 
@@ -16,7 +17,7 @@ mod views;
 #[derive(Drop)]
 pub struct ClosedRound<W> {
     round: OpenRound,
-    arcs: Table<Arc, 448>,
+    arcs: Table<Arc, MOST_ARCS>,
     kind: PhantomData<W>,
     ghost drawn: { ∥ Carries (book round) arcs ∥₁ },
 }

@@ -3,6 +3,7 @@ ghost use Rattle.book.specs.Books.{Sound};
 ghost use Rattle.round.specs.Kept.{book_of, in_rows};
 
 use super::entry::Entry;
+use book::bounds::{MOST_HOLDINGS, MOST_ITEMS, MOST_LINES, MOST_MEMBERS, MOST_OFFERS};
 use book::holding::Holding;
 use book::line::Line;
 use tables::table::Table;
@@ -19,11 +20,11 @@ mod withdrawal;
 // A round that takes items, members, holdings and offers.
 #[derive(Drop)]
 pub struct OpenRound {
-    items: Table<Name, 16>,
-    members: Table<Name, 32>,
-    holdings: Table<Holding, 128>,
-    offers: Table<Entry, 64>,
-    lines: Table<Line, 256>,
+    items: Table<Name, MOST_ITEMS>,
+    members: Table<Name, MOST_MEMBERS>,
+    holdings: Table<Holding, MOST_HOLDINGS>,
+    offers: Table<Entry, MOST_OFFERS>,
+    lines: Table<Line, MOST_LINES>,
     ghost sound: { ∥ Sound (book_of items members holdings offers lines) ∥₁ },
     ghost rows: { in_rows 0 offers (length lines) ≡ true },
 }

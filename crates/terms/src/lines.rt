@@ -3,13 +3,14 @@ ghost use Rattle.std.specs.List.{ContainsAt as Has};
 ghost use Rattle.book.specs.Books.{Any, Twice, Loop, item_of};
 ghost use Rattle.terms.specs.Lines.{EitherSide, Out};
 
+use book::bounds::{HIGHEST_PRICE, MOST_UNITS};
 use book::line::Line;
 
 // Whether the limit is not 1 to 1,000.
 pub fn is_out(limit: u32) -> bool
     ensures { Decides result (Out limit) }
 {
-    limit < 1 || 1000 < limit
+    limit < 1 || MOST_UNITS < limit
 }
 
 // Both sides are parameters, since the view of an offer belongs to `round`, above this crate. Each test is one chain; a function over
@@ -33,7 +34,7 @@ pub fn has_line_out(give: &[Line], get: &[Line]) -> bool
 pub fn is_overpriced(give: &[Line], get: &[Line]) -> bool
     ensures { Decides result (EitherSide (λ l. 1000000 < l.price) give.now get.now) }
 {
-    give.iter().chain(get).any(|l| 1_000_000 < l.price)
+    give.iter().chain(get).any(|l| HIGHEST_PRICE < l.price)
 }
 
 // Whether some line is of cash above this price.

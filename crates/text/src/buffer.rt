@@ -5,6 +5,7 @@ ghost use Rattle.text.specs.Numbers.{spelt, level_spelt};
 ghost use Rattle.text.specs.Rows.{row_spelt};
 ghost use Rattle.text.specs.Sections.{letter};
 
+use super::bounds::MOST_BYTES;
 use super::numeral::Numeral;
 use super::section::Section;
 use itoa::Buffer as Digits;
@@ -15,7 +16,7 @@ use tables::table::Table;
 // A text in the making, of at most 32,768 bytes. What is put in comes after what it has, as far as it fits.
 #[derive(Drop)]
 pub struct Buffer {
-    bytes: Table<u8, 32768>,
+    bytes: Table<u8, MOST_BYTES>,
 }
 
 // Contracts see a buffer as the bytes that were put in.

@@ -1,6 +1,7 @@
 ghost use Rattle.std.specs.Prelude.{◌<◌, ◌^◌};
 ghost use Rattle.text.specs.Numbers.{Reads, Spells, SpellsWithin, unsigned, signed};
 
+use super::bounds::MOST_DIGITS;
 use tables::refusal::Refusal;
 
 // The number that the bytes spell: decimal, at most so many digits, no leading zero, and no larger than a u64.
@@ -21,7 +22,7 @@ pub fn digits<const DIGITS: usize>(bytes: &[u8]) -> Result<u64, Refusal>
 pub fn number(bytes: &[u8]) -> Result<u64, Refusal>
     ensures { Reads (Spells unsigned bytes.now) result }
 {
-    digits::<13>(bytes)
+    digits::<MOST_DIGITS>(bytes)
 }
 
 // The number that the bytes spell, with a minus where it is below 0.

@@ -2,7 +2,7 @@ ghost use Rattle.flow.proofs.Rows.{same_refl, same_trans};
 ghost use Rattle.haul_table.specs.Roads.{hauled, Alike};
 ghost use Rattle.haul_table.specs.Settled.{alike_settled};
 
-use super::HaulTable;
+use super::{HaulTable, NODES};
 use flow::arc::Arc;
 use network::arcs::push;
 use network::improvable::Improvable;
@@ -17,7 +17,7 @@ impl<W: Worth> Network for HaulTable<W> {
     ghost sound = { λ x. x.sound };
 
     fn counts(&self) -> (u32, u32) {
-        (64, self.arcs.len() as u32)
+        (NODES, self.arcs.len() as u32)
     }
 
     fn arc(&self, i: u32) -> Result<Arc, Refusal> {

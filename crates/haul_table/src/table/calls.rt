@@ -6,7 +6,7 @@ ghost use Rattle.flow.specs.Arcs.{fresh};
 ghost use Rattle.haul_table.specs.Roads.{hauled, empty, road_rows, Roaded, Alike};
 ghost use Rattle.haul_table.specs.Uses.{Law};
 
-use super::HaulTable;
+use super::{HaulTable, MOST_ARCS, NODES};
 use flow::arc::Arc;
 use network::valuation::worth;
 use search::clear::clear;
@@ -20,9 +20,9 @@ use worth::kind::Worth;
 fn admit(arc: Arc, count: usize) -> Result<(), Refusal>
     ensures { First (road_rows 64 count arc) (refusal result) }
 {
-    if arc.from >= 64 || arc.to >= 64 {
+    if arc.from >= NODES || arc.to >= NODES {
         Err(Refusal::Unknown)
-    } else if count >= 256 {
+    } else if count >= MOST_ARCS {
         Err(Refusal::Full)
     } else if arc.capacity > 1000 || arc.weeks > 1 {
         Err(Refusal::Bounds)

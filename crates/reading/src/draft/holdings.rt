@@ -8,6 +8,7 @@ ghost use Rattle.reading.specs.declared.entry.Entry.TheVariants.{Holding as AHol
 use super::super::bounds::clamp;
 use super::super::next::next_row;
 use super::Draft;
+use book::bounds::MOST_UNITS;
 use book::holding::Holding;
 use round::open_round::OpenRound;
 use tables::refusal::Refusal;
@@ -20,7 +21,7 @@ fn hold_first(round: &mut OpenRound, h: Holding) -> Result<(), Refusal>
     ensures { HoldsFirst (book round.old) (book round.new) h result }
 {
     let held = round.holding(h.member, h.item)?;
-    if h.units > 1000 {
+    if h.units > MOST_UNITS {
         return Err(Refusal::Bounds);
     }
     if held.is_some() {

@@ -7,6 +7,7 @@ ghost use Rattle.record.specs.Flows.{flow_row, given_from, flows_of};
 
 use super::filled::{FilledOffer, FilledOffers};
 use book::holding::Holding;
+use network::bounds::MOST_ARCS;
 use reading::record::Record;
 use tables::table::Table;
 
@@ -44,7 +45,7 @@ impl<'a> FilledOffer<'a> {
     }
 
     // Adds the flows on its arcs: those of its give lines, its own, those of its get lines.
-    fn add_to(self, flows: &mut Table<u32, 448>)
+    fn add_to(self, flows: &mut Table<u32, MOST_ARCS>)
         requires { length flows.old + length (flow_row (filled self)) ≤ 448 }
         ensures { flows.new ≡ flows.old ++ flow_row (filled self.entry) }
     {
@@ -64,7 +65,7 @@ fn given_from(record: &Record, h: Holding) -> u32
 }
 
 // The flows on the arcs of the holdings.
-fn holding_flows(record: &Record) -> Table<u32, 448>
+fn holding_flows(record: &Record) -> Table<u32, MOST_ARCS>
     ensures { result ≡ map (given_from (contents «record».now)) (contents «record».now).holdings }
 {
     let mut flows = Table::default();
@@ -75,7 +76,7 @@ fn holding_flows(record: &Record) -> Table<u32, 448>
 }
 
 // The flow of each arc of the record's network, in the order of the arcs.
-pub(super) fn flows_of(record: &Record) -> Table<u32, 448>
+pub(super) fn flows_of(record: &Record) -> Table<u32, MOST_ARCS>
     ensures { result ≡ flows_of (contents «record».now) }
 {
     let mut flows = holding_flows(record);

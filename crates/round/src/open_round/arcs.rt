@@ -10,6 +10,7 @@ use super::super::offer_view::OfferView;
 use super::OpenRound;
 use book::line::Line;
 use flow::arc::Arc;
+use network::bounds::MOST_ARCS;
 use tables::table::Table;
 use terms::holdings::find_holding;
 
@@ -42,7 +43,7 @@ impl OpenRound {
     }
 
     // Adds the arcs from each item to its holdings. The holdings are numbered, since their nodes come in their order after the items.
-    fn add_holdings(&self, arcs: &mut Table<Arc, 448>)
+    fn add_holdings(&self, arcs: &mut Table<Arc, MOST_ARCS>)
         requires { length arcs.old ≤ 320 }
         ensures { arcs.new ≡ arcs.old ++ holding_arcs (length (book self.now).items) (book self.now).holdings no_flows.held }
     {
@@ -54,7 +55,7 @@ impl OpenRound {
     }
 
     // Adds the arcs of one offer: its give lines, its own, its get lines.
-    fn add_offer(&self, arcs: &mut Table<Arc, 448>, offer: &OfferView<'_>, inside: u32)
+    fn add_offer(&self, arcs: &mut Table<Arc, MOST_ARCS>, offer: &OfferView<'_>, inside: u32)
         requires small { inside < 272 }
         requires room { length arcs.old + (length offer.now.give.now + length offer.now.get.now) < 448 }
         ensures { arcs.new ≡ arcs.old ++ offer_arcs (length (book self.now).items) (book self.now).holdings inside (seen offer.now) (no_flows.offers 0) }
@@ -88,7 +89,7 @@ impl OpenRound {
 
     // The arcs of the round's network, with no flow on them. The offers are numbered, since their nodes, two for each, come in their
     // order after those of the holdings.
-    pub(crate) fn arcs(&self) -> Table<Arc, 448>
+    pub(crate) fn arcs(&self) -> Table<Arc, MOST_ARCS>
         ensures { result ≡ arcs_of (book self.now) }
     {
         let mut arcs = Table::default();

@@ -4,20 +4,21 @@ ghost use Rattle.round.specs.Holdings.{Strange, Put, Holds, AnswersHolding};
 ghost use Rattle.round.specs.Uses.{RoundLaw};
 
 use super::OpenRound;
+use book::bounds::{MOST_HOLDINGS, MOST_UNITS};
 use book::holding::Holding;
 use tables::refusal::Refusal;
 use tables::table::Table;
 use terms::holdings::{find_holding, units_held};
 
 // Puts a holding in the place of the one for the same pair, or at the end.
-fn put(holdings: &mut Table<Holding, 128>, h: Holding) -> Result<(), Refusal>
+fn put(holdings: &mut Table<Holding, MOST_HOLDINGS>, h: Holding) -> Result<(), Refusal>
     ensures { Put holdings.old holdings.new h result }
 {
     let found = find_holding(holdings.as_slice(), h.member, h.item);
-    if found.is_none() && holdings.len() == 128 {
+    if found.is_none() && holdings.len() == MOST_HOLDINGS {
         return Err(Refusal::Full);
     }
-    if h.units > 1000 {
+    if h.units > MOST_UNITS {
         return Err(Refusal::Bounds);
     }
     match found {

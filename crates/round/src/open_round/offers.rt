@@ -10,6 +10,7 @@ ghost use Rattle.round.specs.Views.{seen};
 use super::super::entry::Entry;
 use super::super::offer_view::OfferView;
 use super::OpenRound;
+use book::bounds::{MOST_LINES, MOST_OFFERS};
 use book::line::Line;
 use tables::refusal::Refusal;
 use terms::lines::{has_line_out, has_unknown_item, is_doubled, is_loop, is_out, is_overpriced};
@@ -49,7 +50,7 @@ impl OpenRound {
         ensures { Decides result (Overfull (book self.now).offers offer.now.give.now offer.now.get.now) }
     {
         let lines = self.lines.len() + offer.give.len() + offer.get.len();
-        64 <= self.offers.len() || 256 < lines
+        MOST_OFFERS <= self.offers.len() || MOST_LINES < lines
     }
 
     // Refuses an offer for the first reason that speaks against it.

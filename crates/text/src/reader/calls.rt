@@ -2,6 +2,7 @@ ghost use Rattle.std.specs.Prelude.{◌≡◌};
 ghost use Rattle.text.specs.Lines.{Says};
 ghost use Rattle.text.specs.Readers.{Opened, Next, Ended};
 
+use super::super::bounds::MOST_BYTES;
 use super::super::fault::{Fault, at_line};
 use super::super::line::{Line, Sort};
 use super::super::parts::cut;
@@ -13,7 +14,7 @@ impl<'a> Reader<'a> {
     pub fn open(text: &'a [u8]) -> Result<Reader<'a>, Refusal>
         ensures { Opened text.now result }
     {
-        if text.len() > 32768 {
+        if text.len() > MOST_BYTES {
             return Err(Refusal::Long);
         }
         Ok(Reader {

@@ -10,7 +10,7 @@ returns-in_err-held c =
     rw (p.1, p.2) (strange (book c.args.round.now) c.args.h _ c.in_err-held.ensures.refused)
 
 pub returns-then-is_some : goal.returns-then-is_some
-returns-then-is_some c = double (book c.args.round.now) c.args.h c.in_ok-held.held c.if-h-gt1000.false c.in_ok-held.ensures (sym c.is_some.ensures ∙ c.if-is_some.true)
+returns-then-is_some c = double (book c.args.round.now) c.args.h c.in_ok-held.held c.if-h-gt-MOST_UNITS.false c.in_ok-held.ensures (sym c.is_some.ensures ∙ c.if-is_some.true)
 
 pub returns : goal.returns
-returns c = single (book c.args.round.now) c.args.h c.in_ok-held.held c.if-h-gt1000.false c.in_ok-held.ensures c.requires (sym c.is_some.ensures ∙ c.if-is_some.false) (book c.hold.new.self) c.hold.result c.hold.ensures.outcome
+returns c = single (book c.args.round.now) c.args.h c.in_ok-held.held c.if-h-gt-MOST_UNITS.false c.in_ok-held.ensures c.requires (sym c.is_some.ensures ∙ c.if-is_some.false) (book c.hold.new.self) c.hold.result c.hold.ensures.outcome

@@ -5,8 +5,8 @@ use Rattle.round.specs.Kept.{offer_of}
 use Rattle.round.proofs.Rows.{count_rows}
 use Rattle.round.proofs.open_round.OpenRound.overflows.Goals as goal
 
-pub returns-else-len-ge64 : goal.returns-else-len-ge64
-returns-else-len-ge64 c =
+pub returns-else-len-ge-MOST_OFFERS : goal.returns-else-len-ge-MOST_OFFERS
+returns-else-len-ge-MOST_OFFERS c =
     let es = c.args.self.now.offers in
     let ls = c.args.self.now.lines in
     let lo = length-map es (offer_of ls) in

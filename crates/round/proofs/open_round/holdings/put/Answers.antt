@@ -7,4 +7,4 @@ pub returns-in-Some : goal.returns-in-Some
 returns-in-Some c =
     let h = c.args.h in
     put_there c.args.holdings.now c.set.new.self h c.in-Some.k c.set.result
-    (sym c.in-Some.is ∙ c.find_holding-found.ensures ∙ ap (λ hs. spot_of hs h.member h.item) c.as_slice.ensures) c.if-h-gt1000.false c.set.ensures
+    (sym c.in-Some.is ∙ c.find_holding-found.ensures ∙ ap (λ hs. spot_of hs h.member h.item) c.as_slice.ensures) c.if-h-gt-MOST_UNITS.false c.set.ensures

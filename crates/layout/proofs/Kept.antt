@@ -190,7 +190,7 @@ side_shrink x above l ls (fair, apart) =
     bounds p (inr (inl h)) = omega (arith, p.0.most)
     bounds p (inr (inr h)) = omega (arith, p.1)
 
-pub line_short : (n : ℕ) (l : LineWithUnits) → n ≤ 16 → FairFilled n l → Short unsigned (line_row l)
+line_short : (n : ℕ) (l : LineWithUnits) → n ≤ 16 → FairFilled n l → Short unsigned (line_row l)
 line_short n l le p = (short l.line.item (omega (arith, p.0.known)), (short l.line.limit (omega (arith, p.0.most)), (short l.line.price (omega (arith, p.0.price)), (short l.units (omega (arith, p.1)), tt))))
 
 -- rules, and then others

@@ -27,7 +27,7 @@ lines_fair : (n : ℕ) (ls : List LineWithUnits) → AllByRecursion (FairFilled 
 lines_fair n [] h = (tt, tt)
 lines_fair n (l ∷ ls) h = let t = lines_fair n ls h.1 in ((h.0.0, t.0), (h.0.1, t.1))
 
-pub lines_filled : (n : ℕ) (ls : List LineWithUnits) → AllByRecursion (Fair n) (map line_of ls) → FairUnits ls → AllByRecursion (FairFilled n) ls
+lines_filled : (n : ℕ) (ls : List LineWithUnits) → AllByRecursion (Fair n) (map line_of ls) → FairUnits ls → AllByRecursion (FairFilled n) ls
 lines_filled n [] h u = tt
 lines_filled n (l ∷ ls) h u = ((h.0, u.0), lines_filled n ls h.1 u.1)
 
@@ -134,7 +134,7 @@ module _ (k : Kind) (items members : List (List ℕ)) (hs : List Holding) (few_i
       }
 
   -- the head of an offer that keeps the rules
-  pub head_kept : (above : List OfferWithUnits) (f : OfferWithUnits) (fs : List OfferWithUnits) → OffersWhole (length items) (length members) (above ++ f ∷ fs) → Kept offer (at_offers above) (head_of f)
+  head_kept : (above : List OfferWithUnits) (f : OfferWithUnits) (fs : List OfferWithUnits) → OffersWhole (length items) (length members) (above ++ f ∷ fs) → Kept offer (at_offers above) (head_of f)
   head_kept above f fs w =
       let p = all_mid (FairFilledOffer (length items) (length members)) above fs f w.0 in
       let fo = p.0 in

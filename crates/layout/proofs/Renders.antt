@@ -206,7 +206,7 @@ module _ (x : Contents) (w : SectionsWhole x) where
 pub reads_records : ReadsRecords
 reads_records text x = (
   λ r. let p = record_from_reading text x r.1 in (p.0, valid_from_sections x p.1),
-  λ (e, v). let w = sections_from_valid x v in subst (λ t. Reads t x) (sym e) (short_record x w, reading_from_record x w 1),
+  λ (e, v). let w = sections_from_valid x v in subst (λ t. Reads t x) (sym e) (omega (arith, short_record x v), reading_from_record x w 1),
 )
 
 pub one_text : OneText

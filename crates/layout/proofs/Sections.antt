@@ -147,11 +147,6 @@ module _ {s : Slot} (l : Listing s) where
   pub put_lines : (cs : List (Says s)) (due : List Slot) (rest : List ℕ) (out : Contents) → l.Whole cs → ReadsFrom due (l.at cs) rest out → ReadsFrom (replicate (length cs) s ++ due) (l.at []) (ended (map (spell s) cs) ++ rest) out
   put_lines cs due rest out w r = put_below cs due [] rest out w r
 
-  -- what each line that is kept has
-  pub all_from_whole : (P : Says s → Type 0) → ((above : List (Says s)) (c : Says s) → Kept s (l.at above) c → P c) → (cs above : List (Says s)) → l.Whole (above ++ cs) → AllByRecursion P cs
-  all_from_whole P h [] above w = tt
-  all_from_whole P h (c ∷ cs) above w = (h above c (l.shrink above c cs w), all_from_whole P h cs (above ++ c ∷ []) (subst l.Whole (sym (append_assoc above (c ∷ []) cs)) w))
-
   -- a section: its head, and lines of sort s, as many as it counts
   pub record NextSection (which : Section) (due : List Slot) (text : List ℕ) (out : Contents) : Type 0 where
     pub says : List (Says s)

@@ -48,6 +48,10 @@ ReadsRecords = (text : List ℕ) (x : Contents) → Reads text x ↔ (text ≡ r
 abbrev pub OneText : Type 0
 OneText = (text other : List ℕ) (x : Contents) → Reads text x → Reads other x → text ≡ other
 
+-- no record is longer than 15,000 bytes
+abbrev pub AllShort : Type 0
+AllShort = (x : Contents) → Valid x → length (render x) ≤ 15000
+
 -- the earliest faulty line decides: what follows it plays no part, so each text with the same lines down to it has the same refusal, unless it is
 -- too long (which gets line 0)
 abbrev pub EarliestDecides : Type 0

@@ -1,5 +1,5 @@
 ghost use Rattle.layout.specs.Records.{AllRecorded};
-ghost use Rattle.layout.specs.Render.{ReadsRecords, OneText, EarliestDecides, CutBeforeFault};
+ghost use Rattle.layout.specs.Render.{ReadsRecords, OneText, AllShort, EarliestDecides, CutBeforeFault};
 ghost use Rattle.layout.specs.Runs.{OneOutcome, SomeOutcome};
 
 // A text reads as contents exactly when it is their record and they keep the rules; so no two texts read alike.
@@ -17,7 +17,8 @@ pub fn outcomes_stand()
     ensures cut { CutBeforeFault }
 {}
 
-// Each round, allotment and levels have their record.
+// Each round, allotment and levels have their record; and no record is longer than 15,000 bytes.
 pub fn records_stand()
-    ensures { AllRecorded }
+    ensures recorded { AllRecorded }
+    ensures short { AllShort }
 {}

@@ -51,7 +51,7 @@ module _ (text : List ℕ) (x : Contents) (reads : Reads text x) where
   no_line d (inl h) = absurd (one_outcome.not_both text x (number d.refusal) d.line reads h)
   no_line d (inr h) = h.line
 
-  answered_once : (p : Passed) → Checks text (Ok p) → (p.worth ≡ total_by x.kind (network_of x)) × (p.offers ≡ map_with result_of (book_of x).offers (allotted x))
+  answered_once : (p : Passed) → Checks text (Ok p) → (p.worth ≡ total_by x.kind (book_of x) (allotted x)) × (p.offers ≡ map_with result_of (book_of x).offers (allotted x))
   answered_once p (y, passes, answered) =
       let e = one_outcome.one_reading text y x passes.reads reads in
       let a : Answered x p = subst (λ z. Answered z p) e answered in
@@ -62,11 +62,11 @@ pub record_of : (text : List ℕ) (x : Contents) → Reads text x → RecordOf t
 record_of text x reads = record { some = (x, reads); every = λ y r. let e = one_outcome.one_reading text y x r reads in (ap (λ z. z.kind) e, ap book_of e) }
 
 -- contents that pass
-pub passing : (text : List ℕ) (x : Contents) (worth : Total) (offers : List OfferResult) → Reads text x → Allowed (book_of x) (allotted x) → LevelsFit x.kind (network_of x) x.levels → total_by x.kind (network_of x) ≡ worth → map_with result_of (book_of x).offers (allotted x) ≡ offers → Passing text worth offers
+pub passing : (text : List ℕ) (x : Contents) (worth : Total) (offers : List OfferResult) → Reads text x → Allowed (book_of x) (allotted x) → LevelsFit x.kind (network_of x) x.levels → total_by x.kind (book_of x) (allotted x) ≡ worth → map_with result_of (book_of x).offers (allotted x) ≡ offers → Passing text worth offers
 passing text x worth offers reads allowed fit w os = record { some = (Ok p, (x, record { reads = reads; allowed = allowed; fits = fit }, record { worth = refl; offers = refl })); every = every }
   where
     p : Passed
-    p = record { worth = total_by x.kind (network_of x); offers = map_with result_of (book_of x).offers (allotted x) }
+    p = record { worth = total_by x.kind (book_of x) (allotted x); offers = map_with result_of (book_of x).offers (allotted x) }
 
     every : (r : Result Passed Fault) → Checks text r → MatchResult r (λ p. (p.worth ≡ worth) × (p.offers ≡ offers)) (λ _. ⊥)
     every (Ok p) h = let a = answered_once text x reads p h in (a.0 ∙ w, a.1 ∙ os)

@@ -1,12 +1,13 @@
 -- The records of the worked cases.
 use Rattle.std.proofs.Common.{leb-true, slice_index_or, ◌≡◌, ℕ, Some, None, Ok, Err, Result, MatchResult, length, take, drop, ap, ◌∙◌, subst, inl, inr, ◌<◌, ◌≤◌, List, [], ◌∷◌, ◌++◌, map, ℤ, pos, negsuc, codes, refl, sym, subst₂, true≢false, arith}
+use borrow.Author.Differences.{ints}
 use Rattle.std.proofs.lemmas.Bool.{ltb-true}
 use Rattle.tables.specs.Refusals.{number}
 use Rattle.tables.specs.declared.refusal.Refusal.TheVariants.{Unfit, Layout, Rule}
-use Rattle.worth.specs.Money.{money}
+use Rattle.worth.specs.Money.{money, of_cents}
 use Rattle.worth.specs.Weeks.{weeks}
 use Rattle.worth.specs.Lexicographic.{pile}
-use Rattle.book.specs.Allotments.{Allotment, Allowed}
+use Rattle.book.specs.Allotments.{Allotment, Allowed, payoffs}
 use Rattle.book.specs.Books.{Book, Sound}
 use Rattle.layout.specs.Records.{by_money, by_money_then_weeks, Contents, allotted, contents_of}
 use Rattle.layout.specs.Runs.{Reads}
@@ -24,9 +25,6 @@ use Rattle.cases.specs.Cases.{empty_text}
 use Rattle.std.proofs.lemmas.Option.{none-some}
 use Rattle.std.proofs.Math.Seq.{take-append_seam}
 use Rattle.std.proofs.ByRecursion.{All-weaker}
-use Rattle.worth.specs.Integers.{money_laws}
-use Rattle.network.specs.Networks.{value}
-use Rattle.book.specs.Arcs.{filled}
 use Rattle.layout.specs.Render.{render}
 use Rattle.record.specs.declared.passed.Total.TheVariants.{Money}
 use Rattle.std.specs.List.{AllByRecursion}
@@ -66,7 +64,7 @@ empty_reads = reading empty_text by_money fresh (all 0) (levels (pos 0 ∷ [])) 
 pub empty_is : RecordOf empty_text by_money fresh
 empty_is = record_of empty_text empty empty_reads
 
-pub empty_passes : (worth : Total) → total_by by_money (network_of empty) ≡ worth → Passing empty_text worth []
+pub empty_passes : (worth : Total) → total_by by_money fresh (allotted empty) ≡ worth → Passing empty_text worth []
 empty_passes worth is = passing empty_text empty worth [] empty_reads (allowed_by fresh (allotted empty) (sound stopped) refl refl) (fitted money (network_of empty) (map amount empty.levels) refl refl refl) is refl
 
 -- the chain round by money
@@ -92,7 +90,7 @@ chain_reads = reading (money_text (codes "3") chain_levels) by_money book (all 3
 pub chain_is : RecordOf (money_text (codes "3") chain_levels) by_money book
 chain_is = record_of (money_text (codes "3") chain_levels) (chain 3 fitting) chain_reads
 
-pub chain_passes : (worth : Total) (offers : List OfferResult) → total_by by_money (network_of (chain 3 fitting)) ≡ worth → map_with result_of book.offers (allotted (chain 3 fitting)) ≡ offers → Passing (money_text (codes "3") chain_levels) worth offers
+pub chain_passes : (worth : Total) (offers : List OfferResult) → total_by by_money book (allotted (chain 3 fitting)) ≡ worth → map_with result_of book.offers (allotted (chain 3 fitting)) ≡ offers → Passing (money_text (codes "3") chain_levels) worth offers
 chain_passes worth offers is are = passing (money_text (codes "3") chain_levels) (chain 3 fitting) worth offers chain_reads (threes_allowed fitting) (fitted money (network_of (chain 3 fitting)) (map amount (levels fitting)) refl refl refl) is are
 
 -- filed
@@ -133,17 +131,16 @@ chain_passing : Passes (money_text (codes "3") chain_levels) (chain 3 fitting)
 chain_passing = record { reads = chain_reads; allowed = threes_allowed fitting; fits = fitted money (network_of (chain 3 fitting)) (map amount (levels fitting)) refl refl refl }
 
 -- each record of the round that passes is worth as much
-worth_once : (y : Contents) → Clears by_money book y → (worth : Total) → total_by by_money (network_of (chain 3 fitting)) ≡ worth → total_by y.kind (network_of y) ≡ worth
+worth_once : (y : Contents) → Clears by_money book y → (worth : Total) → total_by by_money book (allotted (chain 3 fitting)) ≡ worth → total_by y.kind (book_of y) (allotted y) ≡ worth
 worth_once y c worth is =
     let own = evidence.0 (render y) y c.passes in
     let allowed : Allowed book (allotted y) = subst (λ b. Allowed b (allotted y)) c.book own.0 in
     let best : BestBy by_money book (allotted y) = subst₂ (λ k b. BestBy k b (allotted y)) c.kind c.book own.1 in
     let known = evidence.0 (money_text (codes "3") chain_levels) (chain 3 fitting) chain_passing in
-    let same : value money (filled book (allotted y)) ≡ value money (network_of (chain 3 fitting)) = money_laws.connected _ _ (best (allotted (chain 3 fitting)) known.0) (known.1 (allotted y) allowed) in
-    let of_kind : total_by y.kind (network_of y) ≡ total_by by_money (filled book (allotted y)) = λ i. total_by (c.kind i) (filled (c.book i) (allotted y)) in
-    of_kind ∙ ap Money same ∙ is
+    let same : payoffs book.offers (allotted y) ≡ payoffs book.offers (allotted (chain 3 fitting)) = omega (arith, ints, best (allotted (chain 3 fitting)) known.0, known.1 (allotted y) allowed) in
+    (λ i. total_by (c.kind i) (c.book i) (allotted y)) ∙ (λ i. Money (of_cents (same i))) ∙ is
 
-pub sheet_cleared : (worth : Total) → total_by by_money (network_of (chain 3 fitting)) ≡ worth → ClearingSheet chain_sheet worth
+pub sheet_cleared : (worth : Total) → total_by by_money book (allotted (chain 3 fitting)) ≡ worth → ClearingSheet chain_sheet worth
 sheet_cleared worth is = record { some = some; every = every }
   where
     some : (page : List ℕ) → 32768 ≤ length page → (after : List ℕ) × (r : Result ℕ Fault) × Clearing chain_sheet page after r
@@ -168,7 +165,7 @@ raised = pos 7 ∷ pos 107 ∷ pos 167 ∷ pos 107 ∷ pos 167 ∷ pos 7 ∷ pos
 raised_reads : Reads (money_text (codes "3") raised_levels) (chain 3 raised)
 raised_reads = reading (money_text (codes "3") raised_levels) by_money book (all 3) (levels raised) book_sound refl refl refl refl
 
-pub raised_passes : (worth : Total) (offers : List OfferResult) → total_by by_money (network_of (chain 3 raised)) ≡ worth → map_with result_of book.offers (allotted (chain 3 raised)) ≡ offers → Passing (money_text (codes "3") raised_levels) worth offers
+pub raised_passes : (worth : Total) (offers : List OfferResult) → total_by by_money book (allotted (chain 3 raised)) ≡ worth → map_with result_of book.offers (allotted (chain 3 raised)) ≡ offers → Passing (money_text (codes "3") raised_levels) worth offers
 raised_passes worth offers is are = passing (money_text (codes "3") raised_levels) (chain 3 raised) worth offers raised_reads (threes_allowed raised) (fitted money (network_of (chain 3 raised)) (map amount (levels raised)) refl refl refl) is are
 
 -- with one level changed: the get line of offer 1 has capacity left, and brings more than the level of its item
@@ -232,7 +229,7 @@ cash_reads = reading cash_text by_money cash_book (all 2) cash.levels cash_sound
 pub cash_is : RecordOf cash_text by_money cash_book
 cash_is = record_of cash_text cash cash_reads
 
-pub cash_passes : (worth : Total) (offers : List OfferResult) → total_by by_money (network_of cash) ≡ worth → map_with result_of cash_book.offers (allotted cash) ≡ offers → Passing cash_text worth offers
+pub cash_passes : (worth : Total) (offers : List OfferResult) → total_by by_money cash_book (allotted cash) ≡ worth → map_with result_of cash_book.offers (allotted cash) ≡ offers → Passing cash_text worth offers
 cash_passes worth offers is are = passing cash_text cash worth offers cash_reads (allowed_by cash_book (allotted cash) cash_sound refl refl) (fitted money (network_of cash) (map amount cash.levels) refl refl refl) is are
 
 -- by money then weeks, with price 70
@@ -252,7 +249,7 @@ weeks_read = reading weeks_text by_money_then_weeks weeks_book (all 3) weekly.le
 pub weeks_is : RecordOf weeks_text by_money_then_weeks weeks_book
 weeks_is = record_of weeks_text weekly weeks_read
 
-pub weeks_pass : (worth : Total) (offers : List OfferResult) → total_by by_money_then_weeks (network_of weekly) ≡ worth → map_with result_of weeks_book.offers (allotted weekly) ≡ offers → Passing weeks_text worth offers
+pub weeks_pass : (worth : Total) (offers : List OfferResult) → total_by by_money_then_weeks weeks_book (allotted weekly) ≡ worth → map_with result_of weeks_book.offers (allotted weekly) ≡ offers → Passing weeks_text worth offers
 weeks_pass worth offers is are = passing weeks_text weekly worth offers weeks_read (allowed_by weeks_book (allotted weekly) weeks_sound refl refl) (fitted (pile money weeks) (network_of weekly) (map amount_and_weeks weekly.levels) refl refl refl) is are
 
 -- the example market
@@ -275,5 +272,5 @@ market_reads = reading market_text by_money market_book traded traded_record.lev
 pub market_is : RecordOf market_text by_money market_book
 market_is = record_of market_text traded_record market_reads
 
-pub market_passes : (worth : Total) (offers : List OfferResult) → total_by by_money (network_of traded_record) ≡ worth → map_with result_of market_book.offers (allotted traded_record) ≡ offers → Passing market_text worth offers
+pub market_passes : (worth : Total) (offers : List OfferResult) → total_by by_money market_book (allotted traded_record) ≡ worth → map_with result_of market_book.offers (allotted traded_record) ≡ offers → Passing market_text worth offers
 market_passes worth offers is are = passing market_text traded_record worth offers market_reads (allowed_by market_book (allotted traded_record) market_sound refl refl) (fitted money (network_of traded_record) (map amount traded_record.levels) refl refl refl) is are

@@ -15,7 +15,7 @@ use Rattle.flow.specs.Arcs.{arc_at}
 use Rattle.flow.specs.Graphs.{Graph, Within, Circulation}
 use Rattle.flow.specs.Groups.{kind}
 use Rattle.network.specs.Circulations.{Circulates}
-use Rattle.network.specs.Networks.{Net, flow_in, graph, value}
+use Rattle.network.specs.Networks.{flow_in, graph, value}
 use Rattle.network.proofs.Circulations.{circulation, circulates}
 use Rattle.book.specs.Allotments.{Units, Allotment, Allowed, Alike, AlikeOn, payoff, weeks_of}
 use Rattle.book.specs.Arcs.{net_of, filling, filled}
@@ -122,8 +122,8 @@ abbrev pub Told : List ℕ → Result Passed Refusal → Type 0
 Told text r = MatchResult r (λ p. (y : Contents) × Passes text y × Answered y p) (λ e. Fails text (fault_at 0 e))
 
 -- it is answered so once its contents are tested by their kind
-pub checked : {W : Type 0} {o : Ops W} {converts : W → Total → Type 0} (text : List ℕ) (x : Contents) (k : Kind) → x.kind ≡ k → ((n : Net) (t : Total) → converts (value o n) t → t ≡ total_by k n) → Reads text x → (r : Result Passed Refusal) → Tested o converts x r → Told text r
+pub checked : {W : Type 0} {o : Ops W} {converts : W → Total → Type 0} (text : List ℕ) (x : Contents) (k : Kind) → x.kind ≡ k → ((b : Book) (a : Allotment) (t : Total) → converts (value o (filled b a)) t → t ≡ total_by k b a) → Reads text x → (r : Result Passed Refusal) → Tested o converts x r → Told text r
 checked text x k told is reads (Ok p) t =
     let s = t.outcome in
-    (x, record { reads = reads; allowed = s.allowed; fits = s.fits }, record { worth = is (network_of x) p.worth s.worth_is ∙ (λ i. total_by (sym told i) (network_of x)); offers = s.results_are })
+    (x, record { reads = reads; allowed = s.allowed; fits = s.fits }, record { worth = is (book_of x) (allotted x) p.worth s.worth_is ∙ (λ i. total_by (sym told i) (book_of x) (allotted x)); offers = s.results_are })
 checked text x k told is reads (Err e) t = record { contents = x; reads = reads; first = t.refused; line = refl }

@@ -33,6 +33,7 @@ use Rattle.layout.proofs.Recorded.{all_recorded}
 use Rattle.layout.proofs.Renders.{reads_records}
 use Rattle.record.specs.Evidence.{amount, amount_and_weeks, LevelsFit, BestBy, Passes, SoundEvidence, EvidenceExists, Evidence}
 use Rattle.record.specs.Worths.{amounts_again, pairs_again}
+use Rattle.record.proofs.Payoffs.{best_by_money, best_by_pair}
 
 -- the two kinds, with their laws
 abbrev by_amount : Group Money
@@ -118,15 +119,15 @@ module _ {W : Type 0} (G : Group W) (k : Kind) (numbers : W → List ℤ) (count
       (map numbers r.row, passes k b a (map numbers r.row) s w fair (length-map r.row numbers ∙ r.long) (fitting (filled b a) r.row r.fitted))
 
 best_by : (k : Kind) (b : Book) (a : Allotment) (zs : List (List ℤ)) → Sound b → Allowed b a → LevelsFit k (filled b a) zs → BestBy k b a
-best_by by_money b a zs = fitted_best by_amount b a (map amount zs)
-best_by by_money_then_weeks b a zs = fitted_best by_pair b a (map amount_and_weeks zs)
+best_by by_money b a zs s w f = (best_by_money b a).0 (fitted_best by_amount b a (map amount zs) s w f)
+best_by by_money_then_weeks b a zs s w f = (best_by_pair b a).0 (fitted_best by_pair b a (map amount_and_weeks zs) s w f)
 
 sound_evidence : SoundEvidence
 sound_evidence text x p = (p.allowed, best_by x.kind (book_of x) (allotted x) x.levels ((reads_records text x).0 p.reads).1.sound p.allowed p.fits)
 
 evidence_exists : EvidenceExists
-evidence_exists by_money = levels_exist by_amount by_money (λ w. w.cents ∷ []) (λ w. refl) (λ w. refl) (λ n ws f. subst (Fitted money n) (sym (amounts_again ws)) f)
-evidence_exists by_money_then_weeks = levels_exist by_pair by_money_then_weeks (λ w. w.first.cents ∷ w.second.count ∷ []) (λ w. refl) (λ w. refl) (λ n ws f. subst (Fitted (pile money weeks) n) (sym (pairs_again ws)) f)
+evidence_exists by_money b a s w best = levels_exist by_amount by_money (λ w. w.cents ∷ []) (λ w. refl) (λ w. refl) (λ n ws f. subst (Fitted money n) (sym (amounts_again ws)) f) b a s w ((best_by_money b a).1 best)
+evidence_exists by_money_then_weeks b a s w best = levels_exist by_pair by_money_then_weeks (λ w. w.first.cents ∷ w.second.count ∷ []) (λ w. refl) (λ w. refl) (λ n ws f. subst (Fitted (pile money weeks) n) (sym (pairs_again ws)) f) b a s w ((best_by_pair b a).1 best)
 
 pub evidence : Evidence
 evidence = (sound_evidence, evidence_exists)

@@ -1,15 +1,15 @@
 -- What check answers.
-use Rattle.std.specs.Prelude.{◌≡◌, ℕ, ◌⊎◌, List, [], ◌∷◌, IfOk, Some, Result, MatchResult}
+use Rattle.std.specs.Prelude.{◌≡◌, ℕ, ◌⊎◌, List, [], ◌∷◌, pos, IfOk, Some, Result, MatchResult}
 use Rattle.tables.specs.Refusals.{Row, when, First, number, refusal}
 use Rattle.tables.specs.declared.refusal.Refusal.{Refusal}
 use Rattle.text.specs.declared.fault.Fault.{Fault}
 use Rattle.worth.specs.Kinds.{Ops}
-use Rattle.worth.specs.Money.{money}
-use Rattle.worth.specs.Weeks.{weeks}
-use Rattle.worth.specs.Lexicographic.{pile}
-use Rattle.network.specs.Networks.{Net, value}
-use Rattle.book.specs.Allotments.{Units, Allowed, payoff, weeks_of}
-use Rattle.book.specs.Books.{Offer}
+use Rattle.worth.specs.Money.{of_cents}
+use Rattle.worth.specs.Weeks.{of_count}
+use Rattle.worth.specs.Lexicographic.{pair}
+use Rattle.network.specs.Networks.{value}
+use Rattle.book.specs.Allotments.{Units, Allotment, Allowed, payoff, payoffs, weeks_of, weeks_got}
+use Rattle.book.specs.Books.{Book, Offer}
 use Rattle.book.specs.Rows.{map_with}
 use Rattle.layout.specs.Records.{Kind, by_money, by_money_then_weeks, Contents, book_of, allotted}
 use Rattle.layout.specs.Runs.{Reads, Refused}
@@ -19,10 +19,10 @@ use Rattle.record.specs.declared.passed.OfferResult.{OfferResult}
 use Rattle.record.specs.declared.passed.Total.{Total}
 use Rattle.record.specs.declared.passed.Total.TheVariants.{Money, MoneyThenWeeks}
 
--- the worth of a network's flows by the kind
-abbrev pub total_by : Kind → Net → Total
-total_by by_money n = Money (value money n)
-total_by by_money_then_weeks n = MoneyThenWeeks (value (pile money weeks) n)
+-- the worth of an allotment by the kind: the sum of the payoffs of its offers, and by money then weeks the weeks got besides
+abbrev pub total_by : Kind → Book → Allotment → Total
+total_by by_money b a = Money (of_cents (payoffs b.offers a))
+total_by by_money_then_weeks b a = MoneyThenWeeks (pair (of_cents (payoffs b.offers a)) (of_count (pos (weeks_got b.offers a))))
 
 -- an offer's payoff and its weeks got
 abbrev pub result_of : Offer → Units → OfferResult
@@ -30,7 +30,7 @@ result_of o u = record { payoff = payoff o u; weeks = weeks_of o u }
 
 -- of a record that passes: its worth, and each offer's payoff and weeks got
 pub record Answered (x : Contents) (p : Passed) : Type 0 where
-  pub worth : p.worth ≡ total_by x.kind (network_of x)
+  pub worth : p.worth ≡ total_by x.kind (book_of x) (allotted x)
   pub offers : p.offers ≡ map_with result_of (book_of x).offers (allotted x)
 
 -- when contents fail that were read: their allotment breaks a rule (15), or else their levels do not fit (11)

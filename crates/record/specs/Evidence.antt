@@ -1,5 +1,5 @@
 -- Records that carry their own evidence: levels that show the allotment to be best.
-use Rattle.std.specs.Prelude.{ℕ, List, map, ℤ, pos, slice_index_or}
+use Rattle.std.specs.Prelude.{◌≡◌, ℕ, ◌≤◌, ◌⊎◌, List, map, ℤ, pos, ◌≤ℤ◌, ◌<ℤ◌, slice_index_or}
 use Rattle.worth.specs.Money.{money, of_cents}
 use Rattle.worth.specs.Weeks.{weeks, of_count}
 use Rattle.worth.specs.Lexicographic.{pile}
@@ -8,8 +8,7 @@ use Rattle.worth.specs.declared.weeks.Weeks.{Weeks}
 use Rattle.worth.specs.declared.lexicographic.Lexicographic.{Lexicographic}
 use Rattle.network.specs.Networks.{Net}
 use Rattle.network.specs.Potentials.{Fitted}
-use Rattle.book.specs.Agreement.{BestAllotment}
-use Rattle.book.specs.Allotments.{Allotment, Allowed}
+use Rattle.book.specs.Allotments.{Allotment, Allowed, payoffs, weeks_got}
 use Rattle.book.specs.Arcs.{filled}
 use Rattle.book.specs.Books.{Book, Sound}
 use Rattle.layout.specs.Records.{Kind, by_money, by_money_then_weeks, Contents, book_of, allotted, contents_of}
@@ -28,10 +27,15 @@ abbrev pub LevelsFit : Kind → Net → List (List ℤ) → Type 0
 LevelsFit by_money n zs = Fitted money n (map amount zs)
 LevelsFit by_money_then_weeks n zs = Fitted (pile money weeks) n (map amount_and_weeks zs)
 
+-- by the kind an allotment c of the round is worth at most as much as a: the payoffs of its offers sum to at most as much; by money then
+-- weeks they sum to less, or to the same and no more weeks are got
+abbrev pub AtMost : Kind → Book → Allotment → Allotment → Type 0
+AtMost by_money b c a = payoffs b.offers c ≤ℤ payoffs b.offers a
+AtMost by_money_then_weeks b c a = (payoffs b.offers c <ℤ payoffs b.offers a) ⊎ ((payoffs b.offers c ≡ payoffs b.offers a) × (weeks_got b.offers c ≤ weeks_got b.offers a))
+
 -- by the kind every allowed allotment is worth at most as much
 abbrev pub BestBy : Kind → Book → Allotment → Type 0
-BestBy by_money b a = BestAllotment money b a
-BestBy by_money_then_weeks b a = BestAllotment (pile money weeks) b a
+BestBy k b a = (c : Allotment) → Allowed b c → AtMost k b c a
 
 -- the network of the record's round, with the flows that its units fill in
 abbrev pub network_of : Contents → Net

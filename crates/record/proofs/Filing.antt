@@ -1,10 +1,11 @@
 -- The record of a closed round and levels: when it is refused, and that it reads back.
-use Rattle.std.proofs.Common.{◌≡◌, ℕ, suc, ◌<◌, ◌≤◌, List, [], ◌∷◌, ◌++◌, map, length, get_or, take, drop, ℤ, Ok, Err, Result, sym, refl, ap, ◌∙◌, subst, ⊎_elim, map-id, arith}
+use Rattle.std.proofs.Common.{◌≡◌, ℕ, suc, ◌<◌, ◌≤◌, List, [], ◌∷◌, ◌++◌, map, length, get_or, take, drop, ℤ, Some, Ok, Err, Result, IfErr, sym, refl, ap, ◌∙◌, subst, ⊎_elim, map-id, arith}
 use Rattle.std.specs.List.{AllByRecursion}
 use Rattle.std.proofs.ByRecursion.{All-from_get_or, All-map}
 use Rattle.std.proofs.lemmas.List.{get_or_default, get_or-map, get_or_past, length-map, length-take, take_all, take-map}
 use Rattle.std.proofs.lemmas.Bool.{cases_lt}
-use Rattle.tables.specs.Refusals.{when, First, refusal}
+use Rattle.std.proofs.lemmas.Option.{none-some}
+use Rattle.tables.specs.Refusals.{when, First, number, refusal}
 use Rattle.tables.specs.declared.refusal.Refusal.{Refusal}
 use Rattle.tables.specs.declared.refusal.Refusal.TheVariants.{Bounds, Short}
 use Rattle.tables.proofs.Firsts.{here, next}
@@ -21,9 +22,10 @@ use Rattle.book.specs.Books.{Book, Offer, Any}
 use Rattle.book.specs.Rows.{AllWith}
 use Rattle.book.specs.declared.line.Line.{Line}
 use Rattle.layout.specs.Layout.{head, item, spell}
-use Rattle.layout.specs.Records.{Contents, Kind, by_money, by_money_then_weeks, parts, contents_of, level_size, FairLevel, FairAllotment}
+use Rattle.layout.specs.Records.{Contents, Kind, by_money, by_money_then_weeks, parts, contents_of, level_size, FairLevel, FairAllotment, Valid}
 use Rattle.layout.specs.Render.{section, lines_of, render}
 use Rattle.layout.specs.Runs.{Reads}
+use Rattle.layout.proofs.Lengths.{short_record}
 use Rattle.layout.proofs.Recorded.{all_recorded}
 use Rattle.layout.proofs.Renders.{reads_records}
 use Rattle.reading.specs.Levels.{numbers}
@@ -31,7 +33,7 @@ use Rattle.reading.specs.declared.level.Level.{Level}
 use Rattle.round.specs.Closed.{closed_book, closed_net, closed_allotment}
 use Rattle.round.specs.declared.closed_round.ClosedRound.{ClosedRound}
 use Rattle.round.specs.Carrying.{sound_closed}
-use Rattle.record.specs.Files.{filed, Files}
+use Rattle.record.specs.Files.{filed, Files, Roomy}
 use Rattle.record.specs.Levels.{Levelled}
 use Rattle.record.specs.Writing.{Adds}
 use Rattle.round.proofs.Unique.{book_sound}
@@ -137,6 +139,10 @@ copied k b a zs text before after (Err f) e over short reads c = record {
   outcome = c.outcome;
 }
 
+-- what is not copied does not fit
+too_short : (text page : List ℕ) (e : Refusal) → First (when 12 (length page < length text) ∷ []) (Some (number e)) → length page < length text
+too_short text page e f = ⊎_elim (λ lt. lt) (λ le. absurd (none-some (number e) (sym (f.1 (λ lt. omega arith))))) (cases_lt (length page) (length text))
+
 module _ {V W : Type 0} {o : Ops W} {k : Kind} {level : W → Level} {worth : Level → W} (told : Levelled o k level worth) (x : ClosedRound V) (ws first : List W) (is : first ≡ take (nodes (closed_book x)) ws) where
   pub files_over : (page : List ℕ) → Any (λ w. 1000000 < o.size w) first → Files k (closed_book x) (closed_allotment x) (map (λ w. numbers k (level w)) ws) page page (Err Bounds)
   files_over page any = record { refused = here (levels_over told (nodes (closed_book x)) ws first is any); outcome = refl }
@@ -148,16 +154,20 @@ module _ {V W : Type 0} {o : Ops W} {k : Kind} {level : W → Level} {worth : Le
       outcome = refl;
     }
 
-    -- the record reads back
-    filed_reads : nodes (closed_book x) ≤ length first → Reads (render (filed k (closed_book x) (closed_allotment x) (map (λ w. numbers k (level w)) ws))) (filed k (closed_book x) (closed_allotment x) (map (λ w. numbers k (level w)) ws))
-    filed_reads le =
+    abbrev whole : Contents
+    whole = filed k (closed_book x) (closed_allotment x) (map (λ w. numbers k (level w)) ws)
+
+    filed_valid : nodes (closed_book x) ≤ length first → Valid whole
+    filed_valid le =
         let b = closed_book x in
-        let zs = take (nodes b) (map (λ w. numbers k (level w)) ws) in
-        let valid = (all_recorded k b (closed_allotment x) zs).valid (book_sound b x.round.sound) (fair_units x) (levels_fair told (nodes b) ws first is none) (long_levels told (nodes b) ws first is le) in
-        (reads_records (render (contents_of k b (closed_allotment x) zs)) (contents_of k b (closed_allotment x) zs)).1 (refl, valid)
+        (all_recorded k b (closed_allotment x) (take (nodes b) (map (λ w. numbers k (level w)) ws))).valid (book_sound b x.round.sound) (fair_units x) (levels_fair told (nodes b) ws first is none) (long_levels told (nodes b) ws first is le)
+
+    -- the record reads back
+    filed_reads : nodes (closed_book x) ≤ length first → Reads (render whole) whole
+    filed_reads le = (reads_records (render whole) whole).1 (refl, filed_valid le)
 
     -- the record fits as a whole
-    whole_text : (text : List ℕ) → nodes (closed_book x) ≤ length first → text ≡ take 32768 (render (contents_of k (closed_book x) (closed_allotment x) (map (λ w. numbers k (level w)) first))) → text ≡ render (filed k (closed_book x) (closed_allotment x) (map (λ w. numbers k (level w)) ws))
+    whole_text : (text : List ℕ) → nodes (closed_book x) ≤ length first → text ≡ take 32768 (render (contents_of k (closed_book x) (closed_allotment x) (map (λ w. numbers k (level w)) first))) → text ≡ render whole
     whole_text text le p = p ∙ ap (λ zs. take 32768 (render (contents_of k (closed_book x) (closed_allotment x) zs))) (first_levels told (nodes (closed_book x)) ws first is) ∙ take_all 32768 _ (filed_reads le).0
 
     pub files_copied : (text : Buffer) (page after : List ℕ) (r : Result ℕ Refusal) → nodes (closed_book x) ≤ length first → text ≡ take 32768 (render (contents_of k (closed_book x) (closed_allotment x) (map (λ w. numbers k (level w)) first))) → Copied text page after r → Files k (closed_book x) (closed_allotment x) (map (λ w. numbers k (level w)) ws) page after r
@@ -165,3 +175,8 @@ module _ {V W : Type 0} {o : Ops W} {k : Kind} {level : W → Level} {worth : Le
         let b = closed_book x in
         let enough = enough_levels told (nodes b) ws first is le in
         copied k b (closed_allotment x) (map (λ w. numbers k (level w)) ws) text page after r (whole_text text le p) (λ any. none (worths_over told (nodes b) ws first is any)) (λ lt. omega arith) (filed_reads le) c
+
+    -- and into a page of 15,000 bytes
+    pub roomy_copied : (text : Buffer) (page after : List ℕ) (r : Result ℕ Refusal) → nodes (closed_book x) ≤ length first → text ≡ take 32768 (render (contents_of k (closed_book x) (closed_allotment x) (map (λ w. numbers k (level w)) first))) → Copied text page after r → IfErr r (Roomy page)
+    roomy_copied text page after (Ok n) le p c = tt
+    roomy_copied text page after (Err e) le p c = λ room is_page. omega (arith, too_short text page e c.refused, ap length (whole_text text le p), short_record whole (filed_valid le), room)

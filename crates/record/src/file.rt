@@ -1,9 +1,9 @@
-ghost use Rattle.std.specs.Prelude.{◌<◌, map, Decides};
+ghost use Rattle.std.specs.Prelude.{◌<◌, map, IfErr, Decides};
 ghost use Rattle.book.specs.Books.{Any};
 ghost use Rattle.reading.specs.Levels.{numbers};
-ghost use Rattle.round.specs.Closed.{closed_book, closed_allotment};
+ghost use Rattle.round.specs.Closed.{closed_book, closed_allotment, closed_net};
 ghost use Rattle.record.specs.Evidence.{Evidence};
-ghost use Rattle.record.specs.Files.{Files};
+ghost use Rattle.record.specs.Files.{Files, Roomy, Evident};
 
 use super::levelled::Levelled;
 use draft::Draft;
@@ -32,6 +32,8 @@ pub fn file<W: Levelled>(
     page: &mut [u8],
 ) -> Result<usize, Refusal>
     ensures outcome { Files W.Levelled.sort (closed_book round.now) (closed_allotment round.now) (map (λ w. numbers W.Levelled.sort (W.Levelled.level w)) levels.now) page.old page.new result }
+    ensures roomy { IfErr result (Roomy page.old) }
+    ensures evident { Evident W.Worth.ops W.Levelled.sort (closed_book round.now) (closed_allotment round.now) (closed_net round.now) levels.now (map (λ w. numbers W.Levelled.sort (W.Levelled.level w)) levels.now) page.new result }
     ensures law { Evidence }
 {
     let (nodes, _) = round.counts();

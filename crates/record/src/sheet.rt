@@ -1,9 +1,10 @@
-ghost use Rattle.std.specs.Prelude.{◌≡◌, ◌*◌, ◌^◌, ◌<◌, Decides};
+ghost use Rattle.std.specs.Prelude.{◌≡◌, ◌*◌, ◌^◌, ◌<◌, IfErr, Decides};
 ghost use Rattle.std.specs.Mem.{type_size};
 ghost use Rattle.std.specs.List.{AllByRecursion};
 ghost use Rattle.reading.specs.Contents.{contents};
 ghost use Rattle.round.specs.Rounds.{book};
 ghost use Rattle.record.specs.Evidence.{Evidence};
+ghost use Rattle.record.specs.Files.{Roomy};
 ghost use Rattle.record.specs.Sheets.{Sheet, ClearedRound, Clearing};
 
 use super::file::file;
@@ -45,6 +46,7 @@ fn clear_by<W: Levelled>(round: OpenRound, page: &mut [u8]) -> Result<usize, Ref
 // Clears a sheet by its kind, writes the record to the start of a page and answers its length.
 pub fn clear_sheet(text: &[u8], page: &mut [u8]) -> Result<usize, Fault>
     ensures outcome { Clearing text.now page.old page.new result }
+    ensures roomy { IfErr result (λ f. Roomy page.old f.refusal) }
     ensures law { Evidence }
 {
     let read = Record::read(text)?;

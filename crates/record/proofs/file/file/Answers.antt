@@ -5,7 +5,7 @@ use Rattle.round.specs.Closed.{closed_book, closed_net, closed_allotment}
 use Rattle.record.proofs.Evident.{evident}
 use Rattle.record.proofs.Filing.{files_over, files_short, files_copied, roomy_copied}
 use Rattle.record.proofs.Passing.{evidence}
-use Rattle.record.proofs.Unique.{book_sound}
+use Rattle.round.proofs.Unique.{book_sound}
 use Rattle.record.proofs.file.file.Goals as goal
 
 pub returns-then-is_over : goal.returns-then-is_over

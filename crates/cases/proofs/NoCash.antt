@@ -29,5 +29,5 @@ text_reads = reading no_cash_text by_money book (all 0) contents.levels book_sou
 pub no_cash_is : RecordOf no_cash_text by_money book
 no_cash_is = record_of no_cash_text contents text_reads
 
-pub no_cash_passes : (worth : Total) (offers : List OfferResult) → total_by by_money (network_of contents) ≡ worth → map_with result_of book.offers (allotted contents) ≡ offers → Passing no_cash_text worth offers
+pub no_cash_passes : (worth : Total) (offers : List OfferResult) → total_by by_money book (allotted contents) ≡ worth → map_with result_of book.offers (allotted contents) ≡ offers → Passing no_cash_text worth offers
 no_cash_passes worth offers is are = passing no_cash_text contents worth offers text_reads (allowed_by book (allotted contents) book_sound refl refl) (fitted money (network_of contents) (map amount contents.levels) refl refl refl) is are

@@ -9,8 +9,8 @@ use Rattle.worth.specs.Integers.{money_laws}
 use Rattle.flow.specs.Graphs.{Circulation, coming, going}
 use Rattle.network.specs.Networks.{Net, flow_in, graph}
 use Rattle.book.specs.Allotments.{payoff, weeks_of}
-use Rattle.book.specs.Books.{Book}
-use Rattle.round.specs.Questions.{offer_at, AnswersPayoff}
+use Rattle.book.specs.Books.{Book, offer_at}
+use Rattle.round.specs.Questions.{AnswersPayoff}
 use Rattle.round.specs.Uses.{allotted}
 use Rattle.cases.specs.Calls.{Pays}
 use Rattle.cases.specs.Cases.{cents}

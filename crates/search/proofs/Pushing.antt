@@ -1,9 +1,9 @@
 -- A cycle shifted along, one push after another.
-use Rattle.std.proofs.Common.{◌≡◌, ℕ, ◌+◌, ◌-◌, ◌*◌, ◌<◌, ◌≤◌, Bool, true, false, eqb, List, [], ◌∷◌, length, set, sym, refl, ap, ◌∙◌, subst, subst₂, ⊎_elim, mul-le-mul, mul-one, mul-add, arith}
-use Rattle.std.proofs.lemmas.List.{length-set, get_or-set_same, get_or-set_other}
-use Rattle.std.proofs.lemmas.Bool.{cases_eq, eq-eqb, ne_eqb}
+use Rattle.std.proofs.Common.{◌≡◌, ℕ, suc, ◌+◌, ◌-◌, ◌*◌, ◌<◌, ◌≤◌, Bool, true, false, eqb, List, [], ◌∷◌, length, get_or, set, drop, drop-cons, sym, refl, ap, ◌∙◌, subst, subst₂, ⊎_elim, mul-le-mul, mul-one, mul-add, arith}
+use Rattle.std.proofs.lemmas.List.{drop_all, length-set, get_or-set_same, get_or-set_other}
+use Rattle.std.proofs.lemmas.Bool.{true≢false, cases_eq, eq-eqb, ne_eqb}
 use Rattle.worth.specs.Kinds.{Ops}
-use Rattle.flow.specs.Groups.{Kind, times}
+use Rattle.flow.specs.Groups.{Kind, Lt, times}
 use Rattle.flow.specs.Graphs.{Graph, when, worth}
 use Rattle.flow.specs.Arcs.{blank, arc_at, net, flow_of, SameArcs, SameArc, with_flow}
 use Rattle.flow.specs.Steps.{arc, starts, Apart, Allows, Shifted, fore, rear, gain}
@@ -13,14 +13,12 @@ use Rattle.flow.specs.declared.step.Step.TheVariants.{Forward, Backward}
 use Rattle.flow.proofs.Group.{unit_right}
 use Rattle.flow.proofs.Rows.{same_arc_refl, net_same}
 use Rattle.flow.proofs.Shift.{allows_one, fore_capacity, rear_capacity, rise_holds}
-use Rattle.network.specs.Networks.{Net, flow_in, graph, value}
+use Rattle.network.specs.Networks.{Net, Sound, flow_in, graph, value}
 use Rattle.search.specs.Links.{SoundArcs, onto}
 use Rattle.search.specs.Cycles.{Measured, Takes, taken}
 use Rattle.search.specs.Outcomes.{Improves}
-use Rattle.search.specs.declared.cycle.Cycle.{Cycle}
-use Rattle.search.specs.Searches.{net_of, round}
 use Rattle.search.proofs.Steps.{has_arc}
-use Rattle.search.proofs.Rounds.{round_is, onto_allows, residual_small}
+use Rattle.search.proofs.Rounds.{onto_allows, residual_small}
 
 -- a list of arcs with the flow of one changed
 put_arcs : List Arc → ℕ → ℕ → List Arc
@@ -48,13 +46,13 @@ one_more d f b e = ap (λ c. d * (when c 1 + f)) e ∙ mul-add d 1 f ∙ ap (λ 
 no_more : (d f : ℕ) (b : Bool) → b ≡ false → d * (when b 1 + f) ≡ d * f
 no_more d f b e = ap (λ c. d * (when c 1 + f)) e ∙ ap (◌*◌ d) (omega arith)
 
--- what the pushes so far have done, part of the way round a cycle, where rest is to come
-pub record Pushing {W : Type 0} (o : Ops W) (y : Cycle) (rest : List Step) (d : ℕ) (m : Net) : Type 0 where
+-- what has become of the network s after k of the pushes along the cycle p
+pub record Pushing {W : Type 0} (o : Ops W) (s : Net) (p : List Step) (d k : ℕ) (m : Net) : Type 0 where
   pub done : List Step
-  pub whole : onto rest done ≡ onto (round y) []
-  pub nodes : m.nodes ≡ y.links.net.nodes
-  pub arcs : SameArcs y.links.net.arcs.now m.arcs
-  pub shifted : Shifted (net o y.links.net.nodes y.links.net.arcs.now) (flow_of y.links.net.arcs.now) done d (flow_in m)
+  pub whole : onto (drop k p) done ≡ onto p []
+  pub nodes : m.nodes ≡ s.nodes
+  pub arcs : SameArcs s.arcs m.arcs
+  pub shifted : Shifted (graph o s) (flow_in s) done d (flow_in m)
 
 module _ {W : Type 0} (G : Kind W) (n : ℕ) (ls : List Arc) (d : ℕ) where
   abbrev N : Graph W
@@ -126,94 +124,100 @@ module _ {W : Type 0} (G : Kind W) (n : ℕ) (ls : List Arc) (d : ℕ) where
       let f = s.long in
       (omega arith, omega arith)
 
-module _ {W : Type 0} (G : Kind W) (y : Cycle) {d : ℕ} {w : W} (z : Measured G.ops y.links.net.nodes y.links.net.arcs.now y.links.last.now y.closing d w) where
-  abbrev ls : List Arc
-  ls = y.links.net.arcs.now
+-- a push changes one arc, so with that arc read again a list of the arcs is right
+put_again : (ms : List Arc) (j k : ℕ) → j < length ms → set ms j (arc_at (put_arcs ms j k) j) ≡ put_arcs ms j k
+unfolding put_arcs
+put_again ms j k l = ap (set ms j) (put_at ms j k l)
 
+taken_again : (m : Net) (d : ℕ) (t : Step) → Takes m d t → set m.arcs (arc t) (arc_at (taken m d t).arcs (arc t)) ≡ (taken m d t).arcs
+unfolding put_arcs
+taken_again m d (Forward j) v = put_again m.arcs j (flow_in m j + d) v.0
+taken_again m d (Backward j) v = put_again m.arcs j (flow_in m j - d) v.0
+
+pub arc_again : (m : Net) (d : ℕ) (t : Step) → Takes m d t → {m' : Net} → m' ≡ taken m d t → {ls : List Arc} → ls ≡ m.arcs → {i : ℕ} → i ≡ arc t → {ls' : List Arc} → ls' ≡ set ls i (arc_at m'.arcs i) → ls' ≡ m'.arcs
+arc_again m d t v {m'} m-is {ls} ls-is {i} i-is is = is ∙ rw (m-is, ls-is, i-is) (taken_again m d t v)
+
+module _ {W : Type 0} (G : Kind W) (s : Net) (sound : Sound s) (p : List Step) {d : ℕ} {w : W} (z : Measured G.ops s.nodes s.arcs p d w) where
   abbrev M : Graph W
-  M = net G.ops y.links.net.nodes ls
-
-  -- the cycle
-  abbrev c : List Step
-  c = onto z.closing.trail (y.closing ∷ [])
-
-  whole_is : onto (round y) [] ≡ c
-  whole_is = ap (λ p. onto p []) (round_is y z.closing)
+  M = graph G.ops s
 
   amount_small : d ≤ 1000
-  amount_small =
-      let a = (onto_allows M (flow_of ls) d z.closing.trail (y.closing ∷ []) z.most.allowed).0 in
-      let b = residual_small G.ops y.links.net.nodes ls y.links.net.sound.each y.closing in
-      omega arith
+  amount_small = small (onto p []) z.gainful.gains z.most.allowed
+    where
+      small : (c : List Step) → Lt G.ops G.ops.none (gain G.ops M c) → Allows M (flow_in s) c d → d ≤ 1000
+      small [] g a = absurd (true≢false (sym g ∙ G.laws.irreflexive G.ops.none))
+      small (t ∷ c) g a = let b = a.0 in let r = residual_small G.ops s.nodes s.arcs sound.each t in omega arith
 
   some_amount : 1 ≤ d
-  some_amount = z.most.most 1 (allows_one M (flow_of ls) z.closing.gainful.node c z.closing.gainful.node z.closing.gainful.closed)
+  some_amount = z.most.most 1 (allows_one M (flow_in s) z.gainful.node (onto p []) z.gainful.node z.gainful.closed)
 
   pub rise_fits : d * G.ops.size w ≤ 4194304
   rise_fits = let b = mul-le-mul amount_small z.small in omega arith
 
-  pub pushing_first : {p : List Step} → p ≡ round y → {m : Net} → net_of y.links.net ≡ m → Pushing G.ops y p d m
-  pushing_first e is = subst₂ (λ q k. Pushing G.ops y q d k) (sym e) is (record {
+  pub pushing_first : Pushing G.ops s p d 0 s
+  pushing_first = record {
     done = [];
     whole = refl;
     nodes = refl;
-    arcs = record { long = refl; each = λ i l. same_arc_refl (arc_at ls i) };
+    arcs = record { long = refl; each = λ i l. same_arc_refl (arc_at s.arcs i) };
     shifted = λ i h. refl;
-  })
+  }
 
   -- one step more
-  module _ {p rest : List Step} {t : Step} (e : p ≡ t ∷ rest) {m : Net} (b : Pushing G.ops y p d m) where
-    on : Pushing G.ops y (t ∷ rest) d m
-    on = subst (λ q. Pushing G.ops y q d m) e b
+  module _ {k : ℕ} (l : k < length p) (f : Step) {m : Net} (b : Pushing G.ops s p d k m) where
+    abbrev t : Step
+    t = get_or p k f
 
-    whole : onto rest (t ∷ on.done) ≡ c
-    whole = on.whole ∙ whole_is
+    whole : onto (drop (suc k) p) (t ∷ b.done) ≡ onto p []
+    whole = ap (λ q. onto q b.done) (sym (drop-cons p k f l)) ∙ b.whole
 
-    allowed : Allows M (flow_of ls) (t ∷ on.done) d
-    allowed = onto_allows M (flow_of ls) d rest (t ∷ on.done) (subst (λ q. Allows M (flow_of ls) q d) (sym whole) z.most.allowed)
+    allowed : Allows M (flow_in s) (t ∷ b.done) d
+    allowed = onto_allows M (flow_in s) d (drop (suc k) p) (t ∷ b.done) (subst (λ q. Allows M (flow_in s) q d) (sym whole) z.most.allowed)
 
-    known : arc t < length ls
-    known = has_arc ls t (omega (arith, allowed.0, some_amount))
+    known : arc t < length s.arcs
+    known = has_arc s.arcs t (omega (arith, allowed.0, some_amount))
 
     pub next_takes : Takes m d t
-    next_takes = takes G y.links.net.nodes ls d y.links.net.sound.each m on.done t on.arcs on.shifted known (onto_apart G y.links.net.nodes ls d rest (t ∷ on.done) (subst (λ q. Apart (starts M q)) (sym whole) z.closing.gainful.apart)) allowed
+    next_takes = takes G s.nodes s.arcs d sound.each m b.done t b.arcs b.shifted known (onto_apart G s.nodes s.arcs d (drop (suc k) p) (t ∷ b.done) (subst (λ q. Apart (starts M q)) (sym whole) z.gainful.apart)) allowed
 
-    pub pushing_next : {m' : Net} → m' ≡ taken m d t → Pushing G.ops y rest d m'
-    pushing_next is = subst (λ k. Pushing G.ops y rest d k) (sym is) (record {
-      done = t ∷ on.done;
-      whole = on.whole;
-      nodes = took_nodes G y.links.net.nodes ls d m t ∙ on.nodes;
-      arcs = took_same G y.links.net.nodes ls d m t known on.arcs;
-      shifted = took_shift G y.links.net.nodes ls d m on.done on.shifted t next_takes;
+    pub next_known : {i : ℕ} → i ≡ arc t → {ls : List Arc} → ls ≡ m.arcs → i < length ls
+    next_known is same = let a = known in let e = b.arcs.long in let h = ap length same in omega arith
+
+    pub pushing_next : {m' : Net} → m' ≡ taken m d t → {k' : ℕ} → k' ≡ k + 1 → Pushing G.ops s p d k' m'
+    pushing_next is next = subst₂ (Pushing G.ops s p d) (let e : suc k ≡ k + 1 = omega arith in e ∙ sym next) (sym is) (record {
+      done = t ∷ b.done;
+      whole = whole;
+      nodes = took_nodes G s.nodes s.arcs d m t ∙ b.nodes;
+      arcs = took_same G s.nodes s.arcs d m t known b.arcs;
+      shifted = took_shift G s.nodes s.arcs d m b.done b.shifted t next_takes;
     })
 
-  pub pushing_all : {p : List Step} → p ≡ [] → {m : Net} → Pushing G.ops y p d m → {before : Net} → net_of y.links.net ≡ before → {r : W} → r ≡ G.ops.times d w → Improves G.ops before m r
-  pushing_all e {m} b same_net {r} is = subst (λ k. Improves G.ops k m r) same_net (record {
-    cycle = c;
-    gainful = z.closing.gainful;
-    amount = d;
-    allowed = z.most.allowed;
-    most = z.most.most;
-    nodes = b.nodes;
-    arcs = b.arcs;
-    shifted = shifted;
-    rises = less (value G.ops before) r ∙ ap (λ v. G.ops.plus v (G.ops.neg (value G.ops before))) (sym after);
-  })
-    where
-      before : Net
-      before = net_of y.links.net
+  -- all steps
+  module _ {k : ℕ} (e : length p ≤ k) {m : Net} (b : Pushing G.ops s p d k m) where
+    shifted : Shifted M (flow_in s) (onto p []) d (flow_in m)
+    shifted = subst (λ q. Shifted M (flow_in s) q d (flow_in m)) (ap (λ q. onto q b.done) (sym (drop_all k p e)) ∙ b.whole) b.shifted
 
-      shifted : Shifted M (flow_of ls) c d (flow_in m)
-      shifted = subst (λ q. Shifted M (flow_of ls) q d (flow_in m)) (ap (λ q. onto q b.done) (sym e) ∙ b.whole ∙ whole_is) b.shifted
+    pub pushing_all : {r : W} → r ≡ G.ops.times d w → Improves G.ops s m r
+    pushing_all {r} is = record {
+      cycle = onto p [];
+      gainful = z.gainful;
+      amount = d;
+      allowed = z.most.allowed;
+      most = z.most.most;
+      nodes = b.nodes;
+      arcs = b.arcs;
+      shifted = shifted;
+      rises = less (value G.ops s) r ∙ ap (λ v. G.ops.plus v (G.ops.neg (value G.ops s))) (sym after);
+    }
+      where
+        graph_is : M ≡ graph G.ops m
+        graph_is = net_same G s.nodes s.arcs m.arcs b.arcs ∙ ap (λ k. net G.ops k m.arcs) (sym b.nodes)
 
-      graph_is : M ≡ graph G.ops m
-      graph_is = net_same G y.links.net.nodes ls m.arcs b.arcs ∙ ap (λ k. net G.ops k m.arcs) (sym b.nodes)
+        rise_is : G.ops.times d w ≡ times G.ops d (gain G.ops M (onto p []))
+        rise_is = G.laws.times_is d w ∙ ap (times G.ops d) z.gains
 
-      rise_is : G.ops.times d w ≡ times G.ops d (gain G.ops M c)
-      rise_is = G.laws.times_is d w ∙ ap (times G.ops d) z.gains
+        after : value G.ops m ≡ G.ops.plus (value G.ops s) r
+        after = ap (λ g. worth G.ops g (flow_in m)) (sym graph_is) ∙ rise_holds G M (flow_in s) (flow_in m) z.gainful.node (onto p []) d z.gainful.closed shifted ∙ ap (G.ops.plus (value G.ops s)) (sym (is ∙ rise_is))
 
-      after : value G.ops m ≡ G.ops.plus (value G.ops before) r
-      after = ap (λ g. worth G.ops g (flow_in m)) (sym graph_is) ∙ rise_holds G M (flow_of ls) (flow_in m) z.closing.gainful.node c d z.closing.gainful.closed shifted ∙ ap (G.ops.plus (value G.ops before)) (sym (is ∙ rise_is))
-
-      less : (a k : W) → k ≡ G.ops.plus (G.ops.plus a k) (G.ops.neg a)
-      less a k = sym (ap (λ v. G.ops.plus v (G.ops.neg a)) (G.laws.comm a k) ∙ G.laws.assoc k a (G.ops.neg a) ∙ ap (G.ops.plus k) (G.laws.inverse a) ∙ unit_right G k)
+        less : (a k : W) → k ≡ G.ops.plus (G.ops.plus a k) (G.ops.neg a)
+        less a k = sym (ap (λ v. G.ops.plus v (G.ops.neg a)) (G.laws.comm a k) ∙ G.laws.assoc k a (G.ops.neg a) ∙ ap (G.ops.plus k) (G.laws.inverse a) ∙ unit_right G k)

@@ -1,10 +1,10 @@
 -- Passes, cuts, and cycles taken one after another.
-use Rattle.std.proofs.Common.{get_or, ◌≡◌, ℕ, suc, [], ◌∷◌, ◌+◌, ◌*◌, ◌<◌, ◌≤◌, Bool, true, false, List, length, set, Some, Option, sym, refl, ap, ◌∙◌, subst, subst₂, ap₂, ⊎_elim, arith}
+use Rattle.std.proofs.Common.{get_or, ◌≡◌, ℕ, [], ◌∷◌, ◌+◌, ◌*◌, ◌<◌, ◌≤◌, Bool, true, false, List, length, Some, Option, sym, refl, ap, ◌∙◌, subst, subst₂, ap₂, ⊎_elim, arith}
 use Rattle.std.proofs.lemmas.Bool.{cases_eq}
-use Rattle.std.proofs.lemmas.List.{get_or-set_same, get_or-set_other, length-set}
+use Rattle.std.proofs.lemmas.List.{get_or-set_same, get_or-set_other}
 use Rattle.std.specs.declared.ops.ControlFlow.TheVariants.{Continue, Break}
 use Rattle.flow.specs.Groups.{Kind, Lt, Le}
-use Rattle.flow.specs.Arcs.{blank, arc_at, net, SameArcs}
+use Rattle.flow.specs.Arcs.{arc_at, net, SameArcs}
 use Rattle.flow.specs.Steps.{arc, step_worth}
 use Rattle.flow.specs.declared.arc.Arc.{Arc}
 use Rattle.flow.specs.declared.step.Step.{Step}
@@ -118,23 +118,6 @@ module _ {W : Type 0} (G : Kind W) {s : Search W} {b : ℕ} (grows : Growing G.o
 
         back : G.ops.plus (G.ops.plus (at a.from) c) (G.ops.neg c) ≡ at a.from
         back = G.laws.assoc (at a.from) c (G.ops.neg c) ∙ ap (G.ops.plus (at a.from)) (G.laws.inverse c) ∙ unit_right G (at a.from)
-
--- the arcs below i are read again
-pub record Again (bs ls : List Arc) (i : ℕ) : Type 0 where
-  pub long : length ls ≡ length bs
-  pub each : (j : ℕ) → j < i → arc_at ls j ≡ arc_at bs j
-
-pub again_next : (bs ls : List Arc) (i : ℕ) (a : Arc) {ls' : List Arc} → Again bs ls i → i < length bs → a ≡ arc_at bs i → ls' ≡ set ls i a → {i' : ℕ} → i' ≡ i + 1 → Again bs ls' i'
-again_next bs ls i a r l is set-is next = subst₂ (Again bs) (sym set-is) (sym next) (record { long = length-set ls i a ∙ r.long; each = each })
-  where
-    each : (j : ℕ) → j < i + 1 → arc_at (set ls i a) j ≡ arc_at bs j
-    each j h = ⊎_elim (λ e. ap (arc_at (set ls i a)) e ∙ get_or-set_same ls i a blank (let k = r.long in omega arith) ∙ is ∙ ap (arc_at bs) (sym e)) (λ d. get_or-set_other ls i j a blank d ∙ r.each j (omega arith)) (cases_eq j i)
-
-pub again_all : (ls bs : List Arc) → length ls ≡ length bs → ((j : ℕ) → j < length bs → arc_at ls j ≡ arc_at bs j) → ls ≡ bs
-again_all [] [] e h = refl
-again_all [] (a ∷ bs) e h = absurd (omega arith)
-again_all (l ∷ ls) [] e h = absurd (omega arith)
-again_all (l ∷ ls) (a ∷ bs) e h = ap₂ ◌∷◌ (h 0 (omega arith)) (again_all ls bs (omega arith) (λ j k. h (suc j) (omega arith)))
 
 -- the ends of a step are those of the same arc
 tail_same : (ls ms : List Arc) → SameArcs ls ms → (s : Step) → tail_of ls s ≡ tail_of ms s

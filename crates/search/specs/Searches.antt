@@ -80,6 +80,6 @@ module _ {W : Type 0} (o : Ops W) where
   abbrev pub Closes : Cycle → Type 0
   Closes c = Closing o c.links.net.nodes c.links.net.arcs.now c.links.last.now c.closing
 
-  -- it allows the amount, and one unit along it gains the gain
-  abbrev pub Measures : Cycle → Measure W → Type 0
-  Measures c m = Measured o c.links.net.nodes c.links.net.arcs.now c.links.last.now c.closing m.amount m.gain
+  -- the steps p are a cycle of the network that allows the amount, and one unit along it gains the gain
+  abbrev pub Measures : Net → List Step → Measure W → Type 0
+  Measures n p m = Measured o n.nodes n.arcs p m.amount m.gain

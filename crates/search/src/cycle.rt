@@ -1,8 +1,9 @@
 // A cycle that a search has found, and what it allows and gains.
-ghost use Rattle.std.specs.Prelude.{◌≡◌};
+ghost use Rattle.std.specs.Prelude.{◌≡◌, []};
 
 use super::links::{Ascent, Links};
 use flow::step::Step;
+use tables::table::Table;
 use worth::kind::Worth;
 
 // The step that closes it, and the links from that step's tail up to its head.
@@ -21,26 +22,30 @@ pub(crate) struct Measure<W> {
 
 impl<'a> Cycle<'a> {
     ghost use Rattle.search.specs.Ascents.{steps_left};
-    ghost use Rattle.search.specs.Searches.{round, Closes, Measures};
+    ghost use Rattle.search.specs.Searches.{net_of, round, Closes, Measures};
 
     // The steps, against their direction: the closing one first.
-    pub(crate) fn steps(self) -> Ascent<'a>
+    fn steps(self) -> Ascent<'a>
         ensures { steps_left result ≡ round self.entry }
     {
         let goal = self.links.net.head(self.closing);
         self.links.ascent(Some(self.closing), goal)
     }
 
-    // What it allows and gains.
-    pub(crate) fn measure<W: Worth>(self) -> Measure<W>
-        requires { Closes W.ops self }
-        ensures { Measures W.ops self.entry result }
+    // What it allows and gains. Its steps are put into a table, since they are found by the arcs, which a shift writes.
+    pub(crate) fn measure<W: Worth>(self, steps: &mut Table<Step, 272>) -> Measure<W>
+        requires closes { Closes W.ops self }
+        requires bare { steps.old ≡ [] }
+        ensures steps { steps.new ≡ round self.entry }
+        ensures measured { Measures W.ops (net_of self.entry.links.net) steps.new result }
     {
         let net = self.links.net;
         let mut amount = u32::MAX;
         let mut gain = W::none();
         // A `fold` is no plainer: `plus` has a bound, so its closure would need a clause that bounds the gain so far.
         for step in self.steps() {
+            // a cycle has no more steps than the table has room for
+            let _ = steps.push(step);
             amount = amount.min(net.room(step));
             gain = net.gain::<W>(step).plus(gain);
         }

@@ -40,8 +40,9 @@ fn improve_within<N: Improvable>(net: &mut N, work: &mut [N::W]) -> Option<N::W>
     let mut ups = no_ups();
     let mut search = Search::new(residual, work, &mut links, &mut ups);
     let closing = search.find_cycle()?;
-    let cycle = search.cycle(closing);
-    let rise = shift(net, cycle, cycle.measure());
+    let mut steps = Table::new(closing);
+    let measure = search.cycle(closing).measure(&mut steps);
+    let rise = shift(net, &mut table, steps.as_slice(), measure);
     blank(work);
     Some(rise)
 }

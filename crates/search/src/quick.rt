@@ -1,18 +1,17 @@
 // Cycle after cycle, with the potentials and the links kept from each to the next. Most cycles of a clearing are found so, since
 // one shift leaves most potentials as they were. That nothing is left to find is for `improve` to say.
-ghost use Rattle.std.specs.Prelude.{◌≡◌, ◌≤◌, length};
-ghost use Rattle.flow.specs.Steps.{arc};
+ghost use Rattle.std.specs.Prelude.{◌≡◌, ◌≤◌, [], length};
 ghost use Rattle.search.specs.Outcomes.{Climb, Improves};
 ghost use Rattle.search.specs.Sweeps.{Small, Forest, Closing};
 ghost use Rattle.search.specs.Links.{Paired};
 ghost use Rattle.search.specs.Passes.{Cut, Passed};
-ghost use Rattle.search.specs.Searches.{net_of};
+ghost use Rattle.search.specs.Searches.{net_of, Measures};
 
-use super::cycle::Cycle;
+use super::cycle::{Cycle, Measure};
 use super::improve::read_arcs;
 use super::links::Links;
 use super::residual::Residual;
-use super::shift::shift;
+use super::shift::{arc_of, shift};
 use super::sweep::{Search, blank, no_links, no_ups};
 use flow::arc::Arc;
 use flow::step::Step;
@@ -21,28 +20,6 @@ use network::readable::Network;
 use std::ops::ControlFlow;
 use tables::table::Table;
 use worth::kind::Worth;
-
-// The arc of a step.
-fn arc_of(step: Step) -> usize
-    ensures { result ≡ arc step }
-{
-    match step {
-        Step::Forward(i) | Step::Backward(i) => i,
-    }
-}
-
-// Reads the arcs again, into a table that has as many, place by place: a table made anew would be zeroed at each shift, all 18 KB of it.
-fn read_again<N: Network>(net: &N, table: &mut Table<Arc, 448>)
-    requires { length table.old ≡ length (N.Network.net net.now).arcs }
-    ensures { table.new ≡ (N.Network.net net.now).arcs }
-{
-    for i in 0..table.len() {
-        if let Ok(arc) = net.arc(i as u32) {
-            // there are as many places as arcs
-            let _ = table.set(i, arc);
-        }
-    }
-}
 
 // Takes away the links that can take nothing any more. It goes by number, since it writes in two rows.
 fn cut(net: Residual, links: &mut [Option<Step>], ups: &mut [usize])
@@ -91,24 +68,22 @@ fn closed_by<'a>(net: Residual<'a>, last: &'a [Option<Step>], closing: Step) -> 
     Cycle { links, closing }
 }
 
-// Shifts along the cycle that a step closes.
-fn shift_closed<'a, N: Improvable>(
-    net: &mut N,
+// Measures the cycle that a step closes, and puts its steps into a table.
+fn measure_closed<'a, W: Worth>(
     read: Residual<'a>,
     links: &'a [Option<Step>],
     closing: Step,
-) -> N::W
-    requires read { net_of read ≡ N.Network.net net.old }
+    steps: &mut Table<Step, 272>,
+) -> Measure<W>
     requires long { read.nodes ≤ length links.now }
-    requires closes { Closing N.W.Worth.ops read.nodes read.arcs.now links.now closing }
-    ensures rises { Improves N.W.Worth.ops (N.Network.net net.old) (N.Network.net net.new) result }
-    ensures kept { N.Improvable.alike net.old net.new }
+    requires closes { Closing W.ops read.nodes read.arcs.now links.now closing }
+    requires bare { steps.old ≡ [] }
+    ensures { Measures W.ops (net_of read.entry) steps.new result }
 {
-    let cycle = closed_by(read, links, closing);
-    shift(net, cycle, cycle.measure())
+    closed_by(read, links, closing).measure(steps)
 }
 
-// Shifts along the cycle that a step closes, reads the arcs again, and cuts the links.
+// Shifts along the cycle that a step closes, and cuts the links.
 fn take<N: Improvable>(
     net: &mut N,
     table: &mut Table<Arc, 448>,
@@ -126,15 +101,17 @@ fn take<N: Improvable>(
     ensures cut { Cut table.new links.old links.new }
     ensures paired { Paired table.new links.new ups.new }
 {
-    let (nodes, _) = net.counts();
-    let residual = Residual {
-        nodes: nodes as usize,
+    let (count, _) = net.counts();
+    let nodes = count as usize;
+    let before = Residual {
+        nodes,
         arcs: table.as_slice(),
     };
-    let rise = shift_closed(net, residual, links, closing);
-    read_again(net, table);
+    let mut steps = Table::new(closing);
+    let measure = measure_closed(before, links, closing, &mut steps);
+    let rise = shift(net, table, steps.as_slice(), measure);
     let after = Residual {
-        nodes: nodes as usize,
+        nodes,
         arcs: table.as_slice(),
     };
     cut(after, links, ups);

@@ -1,13 +1,26 @@
-ghost use Rattle.std.specs.Prelude.{◌≡◌};
+ghost use Rattle.std.specs.Prelude.{◌≡◌, ◌<◌, length, slice_set};
+ghost use Rattle.flow.specs.Arcs.{arc_at};
+ghost use Rattle.flow.specs.Steps.{arc};
 ghost use Rattle.search.specs.Cycles.{taken, Takes};
 ghost use Rattle.search.specs.Outcomes.{Improves};
-ghost use Rattle.search.specs.Searches.{net_of, Measures};
+ghost use Rattle.search.specs.Searches.{Measures};
 
-use super::cycle::{Cycle, Measure};
+use super::cycle::Measure;
+use flow::arc::Arc;
 use flow::step::Step;
 use network::improvable::Improvable;
 use network::readable::Network;
+use tables::table::Table;
 use worth::kind::Worth;
+
+// The arc of a step.
+pub(crate) fn arc_of(step: Step) -> usize
+    ensures { result ≡ arc step }
+{
+    match step {
+        Step::Forward(i) | Step::Backward(i) => i,
+    }
+}
 
 // Moves an amount along one step. The step can take it, so the push is not refused. The two cases differ in a sign, and one push after
 // a `match` for the sign would be no shorter.
@@ -26,15 +39,35 @@ fn push_step<N: Improvable>(net: &mut N, step: Step, amount: u32)
     }
 }
 
-// Moves as much along a cycle as it allows, and answers what the worth rises by.
-pub(crate) fn shift<N: Improvable>(net: &mut N, cycle: Cycle, measure: Measure<N::W>) -> N::W
-    requires read { net_of cycle.links.net ≡ N.Network.net net.old }
-    requires measured { Measures N.W.Worth.ops cycle measure }
+// Reads one arc again into a table that has as many.
+fn read_arc<N: Network>(net: &N, table: &mut Table<Arc, 448>, i: usize)
+    requires long { length table.old ≡ length (N.Network.net net.now).arcs }
+    requires known { i < length table.old }
+    ensures { table.new ≡ slice_set table.old i (arc_at (N.Network.net net.now).arcs i) }
+{
+    if let Ok(arc) = net.arc(i as u32) {
+        // there are as many places as arcs
+        let _ = table.set(i, arc);
+    }
+}
+
+// Moves as much along a cycle as it allows, and answers what the worth rises by. Of the arcs, which were read into a table,
+// those of the cycle are read again.
+pub(crate) fn shift<N: Improvable>(
+    net: &mut N,
+    table: &mut Table<Arc, 448>,
+    steps: &[Step],
+    measure: Measure<N::W>,
+) -> N::W
+    requires read { table.old ≡ (N.Network.net net.old).arcs }
+    requires measured { Measures N.W.Worth.ops (N.Network.net net.old) steps.now measure }
     ensures rises { Improves N.W.Worth.ops (N.Network.net net.old) (N.Network.net net.new) result }
     ensures kept { N.Improvable.alike net.old net.new }
+    ensures read { table.new ≡ (N.Network.net net.new).arcs }
 {
-    for step in cycle.steps() {
-        push_step(net, step, measure.amount);
+    for step in steps {
+        push_step(net, *step, measure.amount);
+        read_arc(net, table, arc_of(*step));
     }
     measure.gain.times(measure.amount)
 }

@@ -1,6 +1,6 @@
-use Rattle.search.specs.Ascents.{steps_left}
+use Rattle.std.proofs.Common.{◌≡◌}
 use Rattle.search.proofs.Pushing.{Pushing}
 use Rattle.search.proofs.shift.shift.Given as goal
 
 abbrev pub invariant-loop-step : goal.invariant-loop-step
-invariant-loop-step g l = Pushing g.N.W.Worth.ops l.fn.cycle (steps_left l.step-iterator) l.measure.amount (g.N.Network.net l.net) × g.N.Improvable.alike l.initial.net l.net
+invariant-loop-step g l = Pushing g.N.W.Worth.ops (g.N.Network.net l.fn.net) l.steps l.measure.amount l.step-index (g.N.Network.net l.net) × (l.table ≡ (g.N.Network.net l.net).arcs) × g.N.Improvable.alike l.fn.net l.net

@@ -1,17 +1,20 @@
 use Rattle.std.proofs.Common.{◌∙◌, ap}
 use Rattle.flow.specs.Groups.{kind}
 use Rattle.search.specs.Ascents.{steps_left}
-use Rattle.search.proofs.Rounds.{measuring_first, measuring_fits, measuring_next, measuring_all}
+use Rattle.search.proofs.Rounds.{measuring_first, measuring_fits, measuring_room, measuring_next, measuring_put, measuring_all}
 use Rattle.search.proofs.cycle.Cycle.measure.Goals as goal
 
 pub loop-step-init : goal.loop-step-init
-loop-step-init g c = measuring_first (kind g.W.Worth.ops g.met.W.Worth.lawful) c.args.self c.requires (ap steps_left c.into_iter-step-iterator.ensures.into_iter_gives ∙ c.steps-step-items.ensures) c.none-gain.ensures
+loop-step-init g c = measuring_first (kind g.W.Worth.ops g.met.W.Worth.lawful) c.args.self c.requires.closes c.requires.bare (ap steps_left c.into_iter-step-iterator.ensures.into_iter_gives ∙ c.steps-step-items.ensures) c.none-gain.ensures
 
 pub plus-gain-requires : goal.plus-gain-requires
 plus-gain-requires g c = measuring_fits (kind g.W.Worth.ops g.met.W.Worth.lawful) c.args.self c.in-Some.ensures.steps c.loop-step.invariant c.gain.ensures
 
 pub loop-step-preserved : goal.loop-step-preserved
-loop-step-preserved g c = measuring_next (kind g.W.Worth.ops g.met.W.Worth.lawful) c.args.self c.in-Some.ensures.steps c.loop-step.invariant c.gain.ensures c.room.ensures c.min-amount.ensures c.plus-gain.ensures
+loop-step-preserved g c = measuring_next (kind g.W.Worth.ops g.met.W.Worth.lawful) c.args.self c.in-Some.ensures.steps c.loop-step.invariant (measuring_room (kind g.W.Worth.ops g.met.W.Worth.lawful) c.args.self c.in-Some.ensures.steps c.loop-step.invariant c.push.ensures) c.gain.ensures c.room.ensures c.min-amount.ensures c.plus-gain.ensures
 
-pub returns : goal.returns
-returns g c = measuring_all (kind g.W.Worth.ops g.met.W.Worth.lawful) c.args.self c.requires c.in-None.ensures.steps.0 c.loop-step.invariant
+pub returns-clause-steps : goal.returns-clause-steps
+returns-clause-steps g c = measuring_put (kind g.W.Worth.ops g.met.W.Worth.lawful) c.args.self c.requires.closes c.in-None.ensures.steps.0 c.loop-step.invariant
+
+pub returns-clause-measured : goal.returns-clause-measured
+returns-clause-measured g c = measuring_all (kind g.W.Worth.ops g.met.W.Worth.lawful) c.args.self c.requires.closes c.in-None.ensures.steps.0 c.loop-step.invariant

@@ -3,4 +3,4 @@ use Rattle.search.proofs.Rounds.{Measuring}
 use Rattle.search.proofs.cycle.Cycle.measure.Given as goal
 
 abbrev pub invariant-loop-step : goal.invariant-loop-step
-invariant-loop-step g l = Measuring g.W.Worth.ops l.fn.self (steps_left l.step-iterator) l.amount l.gain
+invariant-loop-step g l = Measuring g.W.Worth.ops l.fn.self l.steps (steps_left l.step-iterator) l.amount l.gain

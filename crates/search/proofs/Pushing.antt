@@ -1,12 +1,14 @@
 -- A cycle shifted along, one push after another.
 use Rattle.std.proofs.Common.{◌≡◌, ℕ, suc, ◌+◌, ◌-◌, ◌*◌, ◌<◌, ◌≤◌, Bool, true, false, eqb, List, [], ◌∷◌, length, get_or, set, drop, drop-cons, sym, refl, ap, ◌∙◌, subst, subst₂, ⊎_elim, mul-le-mul, mul-one, mul-add, arith}
 use Rattle.std.proofs.lemmas.List.{drop_all, length-set, get_or-set_same, get_or-set_other}
+use Rattle.std.specs.List.{All, AllByRecursion, Contains}
+use Rattle.std.proofs.lemmas.List.Elements.{All-from_recursion}
 use Rattle.std.proofs.lemmas.Bool.{true≢false, cases_eq, eq-eqb, ne_eqb}
 use Rattle.worth.specs.Kinds.{Ops}
 use Rattle.flow.specs.Groups.{Kind, Lt, times}
 use Rattle.flow.specs.Graphs.{Graph, when, worth}
 use Rattle.flow.specs.Arcs.{blank, arc_at, net, flow_of, SameArcs, SameArc, with_flow}
-use Rattle.flow.specs.Steps.{arc, starts, Apart, Allows, Shifted, fore, rear, gain}
+use Rattle.flow.specs.Steps.{arc, starts, Apart, residual, Allows, Shifted, fore, rear, gain}
 use Rattle.flow.specs.declared.arc.Arc.{Arc}
 use Rattle.flow.specs.declared.step.Step.{Step}
 use Rattle.flow.specs.declared.step.Step.TheVariants.{Forward, Backward}
@@ -15,10 +17,18 @@ use Rattle.flow.proofs.Rows.{same_arc_refl, net_same}
 use Rattle.flow.proofs.Shift.{allows_one, fore_capacity, rear_capacity, rise_holds}
 use Rattle.network.specs.Networks.{Net, Sound, flow_in, graph, value}
 use Rattle.search.specs.Links.{SoundArcs, onto}
-use Rattle.search.specs.Cycles.{Measured, Takes, taken}
+use Rattle.search.specs.Cycles.{Measured, Takes, taken, FullAlong}
 use Rattle.search.specs.Outcomes.{Improves}
 use Rattle.search.proofs.Steps.{has_arc}
 use Rattle.search.proofs.Rounds.{onto_allows, residual_small}
+
+onto_each : (P : Step → Type 0) (q p : List Step) → AllByRecursion P (onto q p) → AllByRecursion P q
+onto_each P [] p a = tt
+onto_each P (t ∷ q) p a = ((below q (t ∷ p) a).0, onto_each P q (t ∷ p) a)
+  where
+    below : (q p : List Step) → AllByRecursion P (onto q p) → AllByRecursion P p
+    below [] p a = a
+    below (t ∷ q) p a = (below q (t ∷ p) a).1
 
 -- a list of arcs with the flow of one changed
 put_arcs : List Arc → ℕ → ℕ → List Arc
@@ -124,6 +134,33 @@ module _ {W : Type 0} (G : Kind W) (n : ℕ) (ls : List Arc) (d : ℕ) where
       let f = s.long in
       (omega arith, omega arith)
 
+times_zero : (d k : ℕ) → k ≡ 0 → d * k ≡ 0
+times_zero d k e = ap (λ j. d * j) e ∙ (omega arith)
+
+-- an arc that is followed is among the steps
+after_more : (t s : Step) (c : List Step) → Contains c s → Contains (t ∷ c) s
+after_more t s c (k, l, e) = (suc k, omega arith, e)
+
+fore_in : (c : List Step) (i : ℕ) → 0 < fore c i → Contains c (Forward i)
+fore_in [] i h = absurd (omega arith)
+fore_in (Forward j ∷ c) i h = ⊎_elim (λ e. (0, omega arith, ap Forward e)) (λ n. after_more (Forward j) (Forward i) c (fore_in c i (let g = subst (λ b. 0 < when b 1 + fore c i) (ne_eqb j i n) h in omega arith))) (cases_eq j i)
+fore_in (Backward j ∷ c) i h = after_more (Backward j) (Forward i) c (fore_in c i h)
+
+rear_in : (c : List Step) (i : ℕ) → 0 < rear c i → Contains c (Backward i)
+rear_in [] i h = absurd (omega arith)
+rear_in (Forward j ∷ c) i h = after_more (Forward j) (Backward i) c (rear_in c i h)
+rear_in (Backward j ∷ c) i h = ⊎_elim (λ e. (0, omega arith, ap Backward e)) (λ n. after_more (Backward j) (Backward i) c (rear_in c i (let g = subst (λ b. 0 < when b 1 + rear c i) (ne_eqb j i n) h in omega arith))) (cases_eq j i)
+
+fore_onto : (q p : List Step) (i : ℕ) → fore (onto q p) i ≡ fore q i + fore p i
+fore_onto [] p i = omega arith
+fore_onto (Forward j ∷ q) p i = let e = fore_onto q (Forward j ∷ p) i in omega arith
+fore_onto (Backward j ∷ q) p i = fore_onto q (Backward j ∷ p) i
+
+rear_onto : (q p : List Step) (i : ℕ) → rear (onto q p) i ≡ rear q i + rear p i
+rear_onto [] p i = omega arith
+rear_onto (Forward j ∷ q) p i = rear_onto q (Forward j ∷ p) i
+rear_onto (Backward j ∷ q) p i = let e = rear_onto q (Backward j ∷ p) i in omega arith
+
 -- a push changes one arc, so with that arc read again a list of the arcs is right
 put_again : (ms : List Arc) (j k : ℕ) → j < length ms → set ms j (arc_at (put_arcs ms j k) j) ≡ put_arcs ms j k
 unfolding put_arcs
@@ -163,6 +200,10 @@ module _ {W : Type 0} (G : Kind W) (s : Net) (sound : Sound s) (p : List Step) {
     shifted = λ i h. refl;
   }
 
+  -- each step has an arc
+  pub each_known : All (λ t. arc t < length s.arcs) p
+  each_known k f l = has_arc s.arcs (get_or p k f) (omega (arith, All-from_recursion (λ t. d ≤ residual M (flow_in s) t) p (onto_each (λ t. d ≤ residual M (flow_in s) t) p [] z.most.allowed) k f l, some_amount))
+
   -- one step more
   module _ {k : ℕ} (l : k < length p) (f : Step) {m : Net} (b : Pushing G.ops s p d k m) where
     abbrev t : Step
@@ -196,6 +237,20 @@ module _ {W : Type 0} (G : Kind W) (s : Net) (sound : Sound s) (p : List Step) {
   module _ {k : ℕ} (e : length p ≤ k) {m : Net} (b : Pushing G.ops s p d k m) where
     shifted : Shifted M (flow_in s) (onto p []) d (flow_in m)
     shifted = subst (λ q. Shifted M (flow_in s) q d (flow_in m)) (ap (λ q. onto q b.done) (sym (drop_all k p e)) ∙ b.whole) b.shifted
+
+    pub pushing_full : FullAlong s.arcs m.arcs p
+    pushing_full (Forward i) can z =
+        let known = has_arc s.arcs (Forward i) can in
+        ⊎_elim
+        (λ e. absurd (let h = shifted i known in let f = fore_onto p [] i in let c = (b.arcs.each i known).capacity in let g = times_zero d (fore (onto p []) i) (omega arith) in omega arith))
+        (λ n. fore_in p i (omega arith))
+        (cases_eq (fore p i) 0)
+    pushing_full (Backward i) can z =
+        let known = has_arc s.arcs (Backward i) can in
+        ⊎_elim
+        (λ e. absurd (let h = shifted i known in let f = rear_onto p [] i in let g = times_zero d (rear (onto p []) i) (omega arith) in omega arith))
+        (λ n. rear_in p i (omega arith))
+        (cases_eq (rear p i) 0)
 
     pub pushing_all : {r : W} → r ≡ G.ops.times d w → Improves G.ops s m r
     pushing_all {r} is = record {

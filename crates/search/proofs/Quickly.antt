@@ -1,7 +1,8 @@
 -- Passes, cuts, and cycles taken one after another.
-use Rattle.std.proofs.Common.{get_or, ◌≡◌, ℕ, [], ◌∷◌, ◌+◌, ◌*◌, ◌<◌, ◌≤◌, Bool, true, false, List, length, Some, Option, sym, refl, ap, ◌∙◌, subst, subst₂, ap₂, ⊎_elim, arith}
-use Rattle.std.proofs.lemmas.Bool.{cases_eq}
-use Rattle.std.proofs.lemmas.List.{get_or-set_same, get_or-set_other}
+use Rattle.std.proofs.Common.{get_or, set, drop, drop-cons, ◌≡◌, ℕ, zero, suc, [], ◌∷◌, ◌+◌, ◌*◌, ◌<◌, ◌≤◌, ◌⊎◌, inl, inr, Bool, true, false, List, length, None, Some, Option, sym, refl, ap, ◌∙◌, subst, subst₂, ap₂, ⊎_elim, arith}
+use Rattle.std.specs.List.{All, Contains}
+use Rattle.std.proofs.lemmas.Bool.{cases_eq, cases_lt}
+use Rattle.std.proofs.lemmas.List.{drop_all, get_or_past, length-set, get_or-set_same, get_or-set_other}
 use Rattle.std.specs.declared.ops.ControlFlow.TheVariants.{Continue, Break}
 use Rattle.flow.specs.Groups.{Kind, Lt, Le}
 use Rattle.flow.specs.Arcs.{arc_at, net, SameArcs}
@@ -13,24 +14,26 @@ use Rattle.flow.proofs.Rows.{net_same, same_all}
 use Rattle.network.specs.Potentials.{potential}
 use Rattle.network.specs.Networks.{Net, Sound}
 use Rattle.worth.specs.Kinds.{Ops, Laws}
-use Rattle.search.specs.Links.{SoundArcs, tail_of, head_of, residual_of, link, Unlinked, Up, Paired}
+use Rattle.search.specs.Links.{SoundArcs, tail_of, head_of, residual_of, link, Unlinked, OpenLinks, OpenBut, Up, Paired}
 use Rattle.search.specs.Sweeps.{Small, offer, Joined, Forest, Closing, Relaxed}
 use Rattle.search.specs.Searches.{Same, Growing, RisesAlong}
 use Rattle.flow.proofs.Group.{unit_right}
 use Rattle.std.proofs.lemmas.List.{get_or_default}
-use Rattle.search.specs.Passes.{Spared, Cut, Went, Passed}
+use Rattle.search.specs.Passes.{Cut, Went, Passed}
+use Rattle.search.specs.Cycles.{Measured, FullAlong}
 use Rattle.search.specs.Outcomes.{Climb, still, more, Improves}
 use Rattle.search.specs.declared.sweep.Search.{Search}
 use Rattle.search.proofs.Forests.{head_in, step_small, bare}
+use Rattle.search.proofs.Pushing.{each_known}
 use Rattle.search.proofs.Raising.{same_on}
-use Rattle.search.proofs.Ways.{none_some, bare_paired}
+use Rattle.search.proofs.Ways.{none_some, same_some, bare_paired}
 use Rattle.search.proofs.Clearing.{less_small, climb_small}
 
--- the links below v are cut
-pub record Cutting (ls : List Arc) (ks ks' : List (Option Step)) (v : ℕ) : Type 0 where
+-- the links ks have become ks' where the first k of the steps p lead
+pub record Cutting (ls : List Arc) (p : List Step) (ks ks' : List (Option Step)) (k : ℕ) : Type 0 where
   pub long : length ks' ≡ length ks
-  pub done : (x : ℕ) → x < v → Spared ls (link ks x) (link ks' x)
-  pub rest : (x : ℕ) → v ≤ x → link ks' x ≡ link ks x
+  pub each : (v : ℕ) → ((link ks' v ≡ None) × ((s : Step) → link ks v ≡ Some s → residual_of ls s ≡ 0)) ⊎ (link ks' v ≡ link ks v)
+  pub left : OpenBut ls (drop k p) ks'
 
 -- the search t has come from s by relaxing k steps
 pub record WentTo {W : Type 0} (o : Ops W) (s t : Search W) (k : ℕ) : Type 0 where
@@ -128,10 +131,61 @@ head_same : (ls ms : List Arc) → SameArcs ls ms → (s : Step) → head_of ls 
 head_same ls ms e (Forward i) = (same_all ls ms e i).to
 head_same ls ms e (Backward i) = (same_all ls ms e i).from
 
+-- cutting along a cycle
+module _ {ls : List Arc} {p : List Step} {ks : List (Option Step)} where
+  pub cut_first : OpenBut ls p ks → Cutting ls p ks ks 0
+  cut_first o = record { long = refl; each = λ v. inr refl; left = o }
+
+  -- one step more
+  module _ {ks' : List (Option Step)} {k : ℕ} (c : Cutting ls p ks ks' k) (l : k < length p) (f : Step) {node : ℕ} (here : node ≡ head_of ls (get_or p k f)) where
+    -- a link elsewhere is among the steps that are left
+    elsewhere : (v : ℕ) (s : Step) → link ks' v ≡ Some s → (v ≡ node → ⊥) → residual_of ls s ≡ 0 → Contains (drop (suc k) p) s
+    elsewhere v s is off none = go (subst (λ q. Contains q s) (drop-cons p k f l) ((c.left v s is).1 none))
+      where
+        go : Contains (get_or p k f ∷ drop (suc k) p) s → Contains (drop (suc k) p) s
+        go (zero, h, e) = absurd (off (sym (c.left v s is).0 ∙ ap (head_of ls) (sym e) ∙ sym here))
+        go (suc j, h, e) = (j, omega arith, e)
+
+    pub cut_stays : ((s : Step) → link ks' node ≡ Some s → residual_of ls s ≡ 0 → ⊥) → Cutting ls p ks ks' (k + 1)
+    cut_stays can = record { long = c.long; each = c.each; left = λ v s is. ((c.left v s is).0, λ none. subst (λ j. Contains (drop j p) s) (let e : suc k ≡ k + 1 = omega arith in e) (elsewhere v s is (λ e. can s (ap (link ks') (sym e) ∙ is) none) none)) }
+
+    pub cut_takes : (t : Step) → link ks' node ≡ Some t → residual_of ls t ≡ 0 → Cutting ls p ks (set ks' node None) (k + 1)
+    cut_takes t is none = record {
+      long = length-set ks' node None ∙ c.long;
+      each = λ v. ⊎_elim (λ e. inl (gone v e, full v e)) (λ d. ⊎_elim (λ n. inl (away v d ∙ n.0, n.1)) (λ n. inr (away v d ∙ n)) (c.each v)) (cases_eq v node);
+      left = λ v s at. ⊎_elim (λ e. absurd (none_some (link (set ks' node None) v) s (gone v e) at)) (λ d. let was = sym (away v d) ∙ at in ((c.left v s was).0, λ z. subst (λ j. Contains (drop j p) s) (let e : suc k ≡ k + 1 = omega arith in e) (elsewhere v s was d z))) (cases_eq v node);
+    }
+      where
+        inside : node < length ks'
+        inside = ⊎_elim (λ h. h) (λ h. absurd (none_some (link ks' node) t (get_or_past ks' node None h) is)) (cases_lt node (length ks'))
+
+        gone : (v : ℕ) → v ≡ node → link (set ks' node None) v ≡ None
+        gone v e = ap (link (set ks' node None)) e ∙ get_or-set_same ks' node None None inside
+
+        away : (v : ℕ) → (v ≡ node → ⊥) → link (set ks' node None) v ≡ link ks' v
+        away v d = get_or-set_other ks' node v None None d
+
+        full : (v : ℕ) → v ≡ node → (s : Step) → link ks v ≡ Some s → residual_of ls s ≡ 0
+        full v e s was = ⊎_elim (λ n. n.1 s was) (λ n. ap (residual_of ls) (same_some (link ks' v) s t (n ∙ was) (ap (link ks') e ∙ is)) ∙ none) (c.each v)
+
+  pub cut_done : {ks' : List (Option Step)} {k : ℕ} → Cutting ls p ks ks' k → length p ≤ k → Cut ls ks ks'
+  cut_done {ks'} {k} c h = record { long = c.long; each = λ v. ⊎_elim inl (λ e. inr (e, λ s is. some v s (e ∙ is))) (c.each v) }
+    where
+      some : (v : ℕ) (s : Step) → link ks' v ≡ Some s → 0 < residual_of ls s
+      some v s is = ⊎_elim (λ z. absurd (let m = (subst (λ q. Contains q s) (drop_all k p h) ((c.left v s is).1 z)).1 in omega arith)) (λ n. omega arith) (cases_eq (residual_of ls s) 0)
+
+-- after a shift along a cycle: its steps lead to nodes, and the links are open but for some of them
+module _ {ls ms : List Arc} (p : List Step) (ks : List (Option Step)) (e : SameArcs ls ms) where
+  pub open_but : FullAlong ls ms p → OpenLinks ls ks → OpenBut ms p ks
+  open_but full o v s is = (sym (head_same ls ms e s) ∙ (o v s is).0, λ z. full s (o v s is).1 z)
+
+pub cycle_within : {W : Type 0} (G : Kind W) (s : Net) → Sound s → (p : List Step) {d : ℕ} {w : W} → Measured G.ops s.nodes s.arcs p d w → {ms : List Arc} → SameArcs s.arcs ms → {n : ℕ} → s.nodes ≤ n → All (λ t. head_of ms t < n) p
+cycle_within G s z p m {ms} e few k f l = let h = head_in G s.nodes s.arcs z.each (get_or p k f) (each_known G s z p m k f l) in let q = head_same s.arcs ms e (get_or p k f) in omega arith
+
 -- a way up leads on as far as its links are spared
 up_cut : (ls ms : List Arc) (ks js : List (Option Step)) → SameArcs ls ms → Cut ms ks js → (v : ℕ) (q : List Step) → Up ls ks v q → (p : List Step) × Up ms js v p
-up_cut ls ms ks js e c v [] up = ⊎_elim (λ n. ([], n)) (λ k. ([], k.0 ∙ up)) (c.each v)
-up_cut ls ms ks js e c v (s ∷ q) up = ⊎_elim (λ n. ([], n)) (λ k. on (k.0 ∙ up.0) (up_cut ls ms ks js e c (tail_of ls s) q up.1)) (c.each v)
+up_cut ls ms ks js e c v [] up = ⊎_elim (λ n. ([], n.0)) (λ k. ([], k.0 ∙ up)) (c.each v)
+up_cut ls ms ks js e c v (s ∷ q) up = ⊎_elim (λ n. ([], n.0)) (λ k. on (k.0 ∙ up.0) (up_cut ls ms ks js e c (tail_of ls s) q up.1)) (c.each v)
   where
     on : link js v ≡ Some s → (p : List Step) × Up ms js (tail_of ls s) p → (p : List Step) × Up ms js v p
     on is z = (s ∷ z.0, (is, subst (λ x. Up ms js x z.0) (tail_same ls ms e s) z.1))
@@ -147,7 +201,7 @@ forest_cut G n ls ms xs ks js f e z c = record {
   potentials_long = f.potentials_long;
   links_long = let a = f.links_long in let b = c.long in omega arith;
   rooted = λ v l. up_cut ls ms ks js e c v (f.rooted v l).0 (f.rooted v l).1;
-  joined = λ v s is. ⊎_elim (λ none. absurd (none_some (link js v) s none is)) (λ k. joined v s (sym k.0 ∙ is) k.1) (c.each v);
+  joined = λ v s is. ⊎_elim (λ none. absurd (none_some (link js v) s none.0 is)) (λ k. joined v s (sym k.0 ∙ is) k.1) (c.each v);
 }
   where
     joined : (v : ℕ) (s : Step) → link ks v ≡ Some s → ((t : Step) → link ks v ≡ Some t → 0 < residual_of ms t) → Joined G.ops n ms xs v s

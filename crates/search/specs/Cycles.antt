@@ -1,5 +1,6 @@
 -- A cycle measured and shifted along. These words serve the contracts of the search's inner functions only.
 use Rattle.std.specs.Prelude.{◌≡◌, ℕ, ◌+◌, ◌-◌, ◌<◌, ◌≤◌, List, [], length}
+use Rattle.std.specs.List.{Contains}
 use Rattle.worth.specs.Kinds.{Ops}
 use Rattle.flow.specs.declared.arc.Arc.{Arc}
 use Rattle.flow.specs.declared.step.Step.{Step}
@@ -7,7 +8,7 @@ use Rattle.flow.specs.declared.step.Step.TheVariants.{Forward, Backward}
 use Rattle.flow.specs.Arcs.{net, flow_of, arc_at}
 use Rattle.flow.specs.Steps.{gain, Allows, Gainful}
 use Rattle.network.specs.Networks.{Net, flow_in, put_flow}
-use Rattle.search.specs.Links.{onto}
+use Rattle.search.specs.Links.{onto, residual_of}
 
 module _ {W : Type 0} (o : Ops W) (n : ℕ) (ls : List Arc) where
   -- d is as much as all the steps of c allow
@@ -31,3 +32,7 @@ Takes m d (Backward i) = (i < length m.arcs) × (d ≤ flow_in m i)
 abbrev pub taken : Net → ℕ → Step → Net
 taken m d (Forward i) = put_flow m i (flow_in m i + d)
 taken m d (Backward i) = put_flow m i (flow_in m i - d)
+
+-- of the steps that can take something over the arcs ls, only those among p can take nothing over the arcs ms
+abbrev pub FullAlong : List Arc → List Arc → List Step → Type 0
+FullAlong ls ms p = (s : Step) → 0 < residual_of ls s → residual_of ms s ≡ 0 → Contains p s

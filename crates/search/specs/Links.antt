@@ -1,6 +1,7 @@
 -- Steps over a table of arcs, and the links of a search: for each node the step by which its potential was raised last,
 -- or none. These words serve the contracts of the search's inner functions only.
 use Rattle.std.specs.Prelude.{◌≡◌, ℕ, zero, suc, ◌-◌, ◌<◌, ◌≤◌, Bool, false, cond, ◌==◌, ◌↔◌, List, [], ◌∷◌, length, Some, None, Option, ◌≢◌, slice_index_or}
+use Rattle.std.specs.List.{Contains}
 use Rattle.flow.specs.declared.arc.Arc.{Arc}
 use Rattle.flow.specs.declared.step.Step.{Step}
 use Rattle.flow.specs.Arcs.{arc_at, flow_of}
@@ -34,6 +35,14 @@ Unlinked ks = (v : ℕ) → link ks v ≡ None
 -- each link is a step of a known arc, and starts from a node
 abbrev pub Linked : List Arc → List (Option Step) → Type 0
 Linked ls ks = (v : ℕ) (s : Step) → link ks v ≡ Some s → (arc s < length ls) × (tail_of ls s < length ks)
+
+-- each link leads to its node, and can take something
+abbrev pub OpenLinks : List Arc → List (Option Step) → Type 0
+OpenLinks ls ks = (v : ℕ) (s : Step) → link ks v ≡ Some s → (head_of ls s ≡ v) × (0 < residual_of ls s)
+
+-- each link leads to its node, and one that can take nothing is among the steps p
+abbrev pub OpenBut : List Arc → List Step → List (Option Step) → Type 0
+OpenBut ls p ks = (v : ℕ) (s : Step) → link ks v ≡ Some s → (head_of ls s ≡ v) × (residual_of ls s ≡ 0 → Contains p s)
 
 -- q are the steps from node v up along the links to a root, a node without a link
 abbrev pub Up : List Arc → List (Option Step) → ℕ → List Step → Type 0

@@ -8,9 +8,9 @@ use Rattle.flow.specs.declared.step.Step.{Step}
 use Rattle.search.specs.Links.{residual_of, link}
 use Rattle.search.specs.Sweeps.{Small, Forest, Closing}
 
--- a link is none, or as it was, and then it can take something
+-- a link that could take nothing is none now, and any other is as it was
 abbrev pub Spared : List Arc → Option Step → Option Step → Type 0
-Spared ls k k' = (k' ≡ None) ⊎ ((k' ≡ k) × ((s : Step) → k ≡ Some s → 0 < residual_of ls s))
+Spared ls k k' = ((k' ≡ None) × ((s : Step) → k ≡ Some s → residual_of ls s ≡ 0)) ⊎ ((k' ≡ k) × ((s : Step) → k ≡ Some s → 0 < residual_of ls s))
 
 -- of the links ks those that can take something are left as they were, and the others none
 pub record Cut (ls : List Arc) (ks ks' : List (Option Step)) : Type 0 where

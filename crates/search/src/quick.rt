@@ -1,9 +1,9 @@
 // Cycle after cycle, with the potentials and the links kept from each to the next. Most cycles of a clearing are found so, since
 // one shift leaves most potentials as they were. That nothing is left to find is for `improve` to say.
-ghost use Rattle.std.specs.Prelude.{◌≡◌, ◌≤◌, [], length};
+ghost use Rattle.std.specs.Prelude.{◌≡◌, ◌<◌, ◌≤◌, [], length, All};
 ghost use Rattle.search.specs.Outcomes.{Climb, Improves};
 ghost use Rattle.search.specs.Sweeps.{Small, Forest, Closing};
-ghost use Rattle.search.specs.Links.{Paired};
+ghost use Rattle.search.specs.Links.{head_of, Paired, OpenLinks, OpenBut};
 ghost use Rattle.search.specs.Passes.{Cut, Passed};
 ghost use Rattle.search.specs.Searches.{net_of, Measures};
 
@@ -21,18 +21,20 @@ use std::ops::ControlFlow;
 use tables::table::Table;
 use worth::kind::Worth;
 
-// Takes away the links that can take nothing any more. It goes by number, since it writes in two rows.
-fn cut(net: Residual, links: &mut [Option<Step>], ups: &mut [usize])
-    requires { Paired net.arcs.now links.old ups.old }
+// Takes away the links that can take nothing any more. They are steps of the cycle that was shifted along.
+fn cut(net: Residual, steps: &[Step], links: &mut [Option<Step>], ups: &mut [usize])
+    requires paired { Paired net.arcs.now links.old ups.old }
+    requires within { All (λ s. head_of net.arcs.now s < length links.old) steps.now }
+    requires links { OpenBut net.arcs.now steps.now links.old }
     ensures cut { Cut net.entry.arcs.now links.old links.new }
     ensures paired { Paired net.entry.arcs.now links.new ups.new }
 {
-    let n = links.len();
-    for v in 0..n {
-        if let Some(step) = links[v] {
-            if net.room(step) == 0 {
-                links[v] = None;
-                ups[v] = n;
+    for step in steps {
+        let node = net.head(*step);
+        if let Some(link) = links[node] {
+            if net.room(link) == 0 {
+                links[node] = None;
+                ups[node] = ups.len();
             }
         }
     }
@@ -95,6 +97,7 @@ fn take<N: Improvable>(
     requires read { table.old ≡ (N.Network.net net.old).arcs }
     requires long { (N.Network.net net.old).nodes ≤ length links.old }
     requires closes { Closing N.W.Worth.ops (N.Network.net net.old).nodes table.old links.old closing }
+    requires links { OpenLinks table.old links.old }
     ensures rises { Improves N.W.Worth.ops (N.Network.net net.old) (N.Network.net net.new) result }
     ensures kept { N.Improvable.alike net.old net.new }
     ensures read { table.new ≡ (N.Network.net net.new).arcs }
@@ -114,7 +117,7 @@ fn take<N: Improvable>(
         nodes,
         arcs: table.as_slice(),
     };
-    cut(after, links, ups);
+    cut(after, steps.as_slice(), links, ups);
     rise
 }
 

@@ -1,7 +1,7 @@
 ghost use Rattle.std.specs.Prelude.{◌≡◌, ◌<◌, length, slice_set};
 ghost use Rattle.flow.specs.Arcs.{arc_at};
 ghost use Rattle.flow.specs.Steps.{arc};
-ghost use Rattle.search.specs.Cycles.{taken, Takes};
+ghost use Rattle.search.specs.Cycles.{taken, Takes, FullAlong};
 ghost use Rattle.search.specs.Outcomes.{Improves};
 ghost use Rattle.search.specs.Searches.{Measures};
 
@@ -64,6 +64,7 @@ pub(crate) fn shift<N: Improvable>(
     ensures rises { Improves N.W.Worth.ops (N.Network.net net.old) (N.Network.net net.new) result }
     ensures kept { N.Improvable.alike net.old net.new }
     ensures read { table.new ≡ (N.Network.net net.new).arcs }
+    ensures full { FullAlong (N.Network.net net.old).arcs (N.Network.net net.new).arcs steps.now }
 {
     for step in steps {
         push_step(net, *step, measure.amount);

@@ -1,7 +1,7 @@
 use Rattle.std.proofs.Common.{arith, sym, ◌∙◌, subst, subst₂}
 use Rattle.std.specs.declared.ops.ControlFlow.TheVariants.{Continue, Break}
 use Rattle.flow.specs.Groups.{kind}
-use Rattle.search.specs.Links.{Paired}
+use Rattle.search.specs.Links.{OpenLinks, Paired}
 use Rattle.search.specs.Passes.{Passed}
 use Rattle.search.proofs.Quickly.{run_first, run_moved, run_taken, run_add}
 use Rattle.search.proofs.quick.climb_quickly.Goals as goal
@@ -35,3 +35,6 @@ loop-k-preserved g c =
 
 pub pass-requires-clause-paired : goal.pass-requires-clause-paired
 pass-requires-clause-paired g c = subst (λ l. Paired l c.loop-k.links c.loop-k.ups) (sym c.as_slice.ensures) c.loop-k.invariant.0.paired
+
+pub take-rise-requires-clause-links : goal.take-rise-requires-clause-links
+take-rise-requires-clause-links g c = subst (λ l. OpenLinks l c.pass.new.links) c.as_slice.ensures (λ v s is. let j = c.in-Break.ensures.passed.0.forest.joined v s is in (j.ends, j.goes.1))

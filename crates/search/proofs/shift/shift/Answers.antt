@@ -1,7 +1,7 @@
 use Rattle.std.proofs.Common.{refl}
 use Rattle.flow.specs.Groups.{kind}
 use Rattle.flow.specs.declared.step.Step.TheVariants.{Forward}
-use Rattle.search.proofs.Pushing.{rise_fits, pushing_first, next_takes, next_known, arc_again, pushing_next, pushing_all}
+use Rattle.search.proofs.Pushing.{rise_fits, pushing_first, next_takes, next_known, arc_again, pushing_next, pushing_full, pushing_all}
 use Rattle.search.proofs.shift.shift.Goals as goal
 
 pub loop-step-init : goal.loop-step-init
@@ -29,3 +29,6 @@ times-requires g c = rise_fits (kind g.N.W.Worth.ops g.met.N.W.Worth.lawful) (g.
 
 pub returns-clause-rises : goal.returns-clause-rises
 returns-clause-rises g c = pushing_all (kind g.N.W.Worth.ops g.met.N.W.Worth.lawful) (g.N.Network.net c.args.net.now) (g.met.N.Network.sound c.args.net.now) c.args.steps.now c.requires.measured c.loop-step-test.false c.loop-step.invariant.0 c.times.ensures
+
+pub returns-clause-full : goal.returns-clause-full
+returns-clause-full g c = pushing_full (kind g.N.W.Worth.ops g.met.N.W.Worth.lawful) (g.N.Network.net c.args.net.now) (g.met.N.Network.sound c.args.net.now) c.args.steps.now c.requires.measured c.loop-step-test.false c.loop-step.invariant.0

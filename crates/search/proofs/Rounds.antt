@@ -1,7 +1,7 @@
 -- The cycle that a step closes, walked up the links, put into a table, and what it allows and gains.
-use Rattle.std.proofs.Common.{◌≡◌, ℕ, zero, suc, ◌+◌, ◌<◌, ◌≤◌, ◌==◌, true, false, min, List, [], ◌∷◌, ◌++◌, length, Ok, Err, Result, Some, Option, sym, refl, ap, ◌∙◌, subst, ap₂, append_assoc, length-append, arith}
+use Rattle.std.proofs.Common.{◌≡◌, ℕ, zero, suc, ◌+◌, ◌<◌, ◌≤◌, ◌==◌, true, false, min, List, [], ◌∷◌, ◌++◌, length, Some, Option, sym, refl, ap, ◌∙◌, subst, ap₂, append_assoc, length-append, take, arith}
 use Rattle.std.proofs.lemmas.Bool.{eq-eqb, ne_eqb}
-use Rattle.std.proofs.lemmas.List.{append-nil}
+use Rattle.std.proofs.lemmas.List.{append-nil, length-take-le}
 use Rattle.worth.specs.Kinds.{Ops}
 use Rattle.flow.specs.Groups.{Kind}
 use Rattle.flow.specs.Graphs.{Graph}
@@ -10,16 +10,12 @@ use Rattle.flow.specs.Steps.{step_worth, gain, residual, Allows, Gainful}
 use Rattle.flow.specs.declared.arc.Arc.{Arc}
 use Rattle.flow.specs.declared.step.Step.{Step}
 use Rattle.flow.specs.declared.step.Step.TheVariants.{Forward, Backward}
-use Rattle.tables.specs.declared.refusal.Refusal.{Refusal}
-use Rattle.tables.specs.Refusals.{number}
-use Rattle.tables.specs.Tables.{Added}
 use Rattle.search.specs.Links.{SoundArcs, tail_of, head_of, residual_of, link, Trail, onto, climb, after}
 use Rattle.search.specs.declared.cycle.Cycle.{Cycle}
 use Rattle.search.specs.Cycles.{Measured}
 use Rattle.search.specs.Searches.{round, Closes}
 use Rattle.search.proofs.Steps.{bounded}
 use Rattle.search.proofs.Forests.{step_small}
-use Rattle.search.proofs.Ways.{none_some}
 
 module _ (ls : List Arc) (ks : List (Option Step)) where
   climb_trail : (v x : ℕ) (q : List Step) (s : Step) (k : ℕ) → x ≡ tail_of ls s → Trail ls ks x v q → length q ≤ k → climb ls ks v (after ls ks v s) k ≡ q
@@ -56,7 +52,7 @@ pub record Measuring {W : Type 0} (o : Ops W) (y : Cycle) (p rest : List Step) (
   pub put : p ++ rest ≡ round y
   pub done : List Step
   pub whole : onto rest done ≡ onto (round y) []
-  pub few : length rest + length p ≤ 272
+  pub few : length rest + length p ≤ y.links.net.nodes
   pub counted : length done ≡ length p
   pub allowed : Allows (net o y.links.net.nodes y.links.net.arcs.now) (flow_of y.links.net.arcs.now) done d
   pub most : (e : ℕ) → e ≤ 4294967295 → Allows (net o y.links.net.nodes y.links.net.arcs.now) (flow_of y.links.net.arcs.now) done e → e ≤ d
@@ -71,18 +67,18 @@ module _ {W : Type 0} (G : Kind W) (y : Cycle) where
   N = net G.ops y.links.net.nodes ls
 
   module _ (z : Closes G.ops y) where
-    pub measuring_first : {p rest : List Step} → p ≡ [] → rest ≡ round y → {w : W} → w ≡ G.ops.none → Measuring G.ops y p rest 4294967295 w
-    measuring_first {p} {rest} bare e {w} none = subst (λ q. Measuring G.ops y q rest 4294967295 w) (sym bare) (record {
+    pub measuring_first : {rest : List Step} → rest ≡ round y → {w : W} → w ≡ G.ops.none → Measuring G.ops y [] rest 4294967295 w
+    measuring_first {rest} e {w} none = record {
       put = e;
       done = [];
       whole = ap (λ q. onto q []) e;
-      few = let l = ap length (e ∙ round_is y z) in let h = z.short in let k = y.links.net.sound.few_nodes in omega arith;
+      few = let l = ap length (e ∙ round_is y z) in let h = z.short in omega arith;
       counted = refl;
       allowed = tt;
       most = λ f h a. h;
       gains = none;
       small = omega (arith, ap G.ops.size none, G.laws.size_none);
-    })
+    }
 
     pub measuring_put : {p rest : List Step} → rest ≡ [] → {d : ℕ} {w : W} → Measuring G.ops y p rest d w → p ≡ round y
     measuring_put {p} e m = sym (append-nil p) ∙ ap (λ q. p ++ q) (sym e) ∙ m.put
@@ -96,7 +92,7 @@ module _ {W : Type 0} (G : Kind W) (y : Cycle) where
           gainful = subst (Gainful G.ops N (flow_of ls)) (sym cycle) z.gainful;
           most = record { allowed = subst (λ q. Allows N (flow_of ls) q d) is m.allowed; most = λ f a. m.most f (let b = (onto_allows N (flow_of ls) f z.trail (s ∷ []) (subst (λ q. Allows N (flow_of ls) q f) cycle a)).0 in let r = residual_small G.ops y.links.net.nodes ls y.links.net.sound.each s in omega arith) (subst (λ q. Allows N (flow_of ls) q f) (sym is) a) };
           gains = m.gains ∙ ap (gain G.ops N) is;
-          small = let q = m.small in let h = m.few in let c = m.counted in omega arith;
+          small = let q = m.small in let h = m.few in let c = m.counted in let k = y.links.net.sound.few_nodes in omega arith;
         }
 
   -- one step more: left is what it can take, and v its worth
@@ -108,12 +104,11 @@ module _ {W : Type 0} (G : Kind W) (y : Cycle) where
     step_fits {v} is = omega (arith, ap G.ops.size is, step_small G y.links.net.nodes ls y.links.net.sound.each t)
 
     pub measuring_fits : {v : W} → v ≡ step_worth G.ops N t → G.ops.size v + G.ops.size w ≤ 4194304
-    measuring_fits {v} is = omega (arith, on.few, on.counted, on.small, step_fits is)
+    measuring_fits {v} is = omega (arith, on.few, on.counted, on.small, step_fits is, y.links.net.sound.few_nodes)
 
-    -- the step is put, as there is room for it
-    pub measuring_room : {r : Result (Unit {0}) Refusal} {p' : List Step} → Added 272 p p' (t ∷ []) r → p' ≡ p ++ (t ∷ [])
-    measuring_room {r = Ok x} a = a.outcome
-    measuring_room {r = Err x} a = absurd (none_some (Some (number x)) (number x) (a.refused.1 (λ h. let f = on.few in omega arith)) refl)
+    -- there is room for the step
+    pub measuring_room : (k : ℕ) (row : List Step) → p ≡ take k row → k ≤ length row → y.links.net.nodes ≤ length row → k < length row
+    measuring_room k row is h l = let f = on.few in let e = ap length is ∙ length-take-le k row h in omega arith
 
     pub measuring_next : {p' : List Step} → p' ≡ p ++ (t ∷ []) → {v : W} → v ≡ step_worth G.ops N t → {left : ℕ} → left ≡ residual_of ls t → {d' : ℕ} → d' ≡ min d left → {w' : W} → w' ≡ G.ops.plus v w → Measuring G.ops y p' rest d' w'
     measuring_next {p'} put-is {v} worth {left} left_is {d'} low {w'} is = record {

@@ -1,9 +1,8 @@
 // A cycle that a search has found, and what it allows and gains.
-ghost use Rattle.std.specs.Prelude.{◌≡◌, []};
+ghost use Rattle.std.specs.Prelude.{◌≡◌, ◌≤◌, length, take};
 
 use super::links::{Ascent, Links};
 use flow::step::Step;
-use tables::table::Table;
 use worth::kind::Worth;
 
 // The step that closes it, and the links from that step's tail up to its head.
@@ -13,11 +12,19 @@ pub(crate) struct Cycle<'a> {
     pub(crate) closing: Step,
 }
 
-// How much all the steps of a cycle can take, and what one unit along it gains.
+// How many steps a cycle has, how much all of them can take, and what one unit along it gains.
 #[derive(Clone, Copy)]
 pub(crate) struct Measure<W> {
+    pub(crate) count: usize,
     pub(crate) amount: u32,
     pub(crate) gain: W,
+}
+
+// A row for the steps of a cycle, at the full size of a search.
+pub(crate) fn no_steps() -> [Step; 272]
+    ensures { length result ≡ 272 }
+{
+    [Step::Forward(0); 272]
 }
 
 impl<'a> Cycle<'a> {
@@ -32,23 +39,29 @@ impl<'a> Cycle<'a> {
         self.links.ascent(Some(self.closing), goal)
     }
 
-    // What it allows and gains. Its steps are put into a table, since they are found by the arcs, which a shift writes.
-    pub(crate) fn measure<W: Worth>(self, steps: &mut Table<Step, 272>) -> Measure<W>
+    // What it allows and gains. Its steps are put into a row, since they are found by the arcs, which a shift writes.
+    pub(crate) fn measure<W: Worth>(self, steps: &mut [Step]) -> Measure<W>
         requires closes { Closes W.ops self }
-        requires bare { steps.old ≡ [] }
-        ensures steps { steps.new ≡ round self.entry }
-        ensures measured { Measures W.ops (net_of self.entry.links.net) steps.new result }
+        requires long { self.links.net.nodes ≤ length steps.old }
+        ensures few { result.count ≤ length steps.new }
+        ensures steps { take result.count steps.new ≡ round self.entry }
+        ensures measured { Measures W.ops (net_of self.entry.links.net) (take result.count steps.new) result }
     {
         let net = self.links.net;
+        let mut count = 0;
         let mut amount = u32::MAX;
         let mut gain = W::none();
         // A `fold` is no plainer: `plus` has a bound, so its closure would need a clause that bounds the gain so far.
         for step in self.steps() {
-            // a cycle has no more steps than the table has room for
-            let _ = steps.push(step);
+            steps[count] = step;
+            count += 1;
             amount = amount.min(net.room(step));
             gain = net.gain::<W>(step).plus(gain);
         }
-        Measure { amount, gain }
+        Measure {
+            count,
+            amount,
+            gain,
+        }
     }
 }

@@ -2,6 +2,7 @@ ghost use Rattle.std.specs.Prelude.{◌≡◌, [], length, Ok};
 ghost use Rattle.search.specs.Outcomes.{Improving};
 ghost use Rattle.search.specs.Uses.{Law};
 
+use super::cycle::no_steps;
 use super::residual::Residual;
 use super::shift::shift;
 use super::sweep::{Search, blank, no_links, no_ups};
@@ -40,9 +41,9 @@ fn improve_within<N: Improvable>(net: &mut N, work: &mut [N::W]) -> Option<N::W>
     let mut ups = no_ups();
     let mut search = Search::new(residual, work, &mut links, &mut ups);
     let closing = search.find_cycle()?;
-    let mut steps = Table::new(closing);
+    let mut steps = no_steps();
     let measure = search.cycle(closing).measure(&mut steps);
-    let rise = shift(net, &mut table, steps.as_slice(), measure);
+    let rise = shift(net, &mut table, &steps[..measure.count], measure);
     blank(work);
     Some(rise)
 }

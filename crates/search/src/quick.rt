@@ -1,13 +1,13 @@
 // Cycle after cycle, with the potentials and the links kept from each to the next. Most cycles of a clearing are found so, since
 // one shift leaves most potentials as they were. That nothing is left to find is for `improve` to say.
-ghost use Rattle.std.specs.Prelude.{◌≡◌, ◌<◌, ◌≤◌, [], length, All};
+ghost use Rattle.std.specs.Prelude.{◌≡◌, ◌<◌, ◌≤◌, length, take, All};
 ghost use Rattle.search.specs.Outcomes.{Climb, Improves};
 ghost use Rattle.search.specs.Sweeps.{Small, Forest, Closing};
 ghost use Rattle.search.specs.Links.{head_of, Paired, OpenLinks, OpenBut};
 ghost use Rattle.search.specs.Passes.{Cut, Passed};
 ghost use Rattle.search.specs.Searches.{net_of, Measures};
 
-use super::cycle::{Cycle, Measure};
+use super::cycle::{Cycle, Measure, no_steps};
 use super::improve::read_arcs;
 use super::links::Links;
 use super::residual::Residual;
@@ -70,27 +70,29 @@ fn closed_by<'a>(net: Residual<'a>, last: &'a [Option<Step>], closing: Step) -> 
     Cycle { links, closing }
 }
 
-// Measures the cycle that a step closes, and puts its steps into a table.
+// Measures the cycle that a step closes, and puts its steps into a row.
 fn measure_closed<'a, W: Worth>(
     read: Residual<'a>,
     links: &'a [Option<Step>],
     closing: Step,
-    steps: &mut Table<Step, 272>,
+    steps: &mut [Step],
 ) -> Measure<W>
     requires long { read.nodes ≤ length links.now }
     requires closes { Closing W.ops read.nodes read.arcs.now links.now closing }
-    requires bare { steps.old ≡ [] }
-    ensures { Measures W.ops (net_of read.entry) steps.new result }
+    requires room { read.nodes ≤ length steps.old }
+    ensures few { result.count ≤ length steps.new }
+    ensures measured { Measures W.ops (net_of read.entry) (take result.count steps.new) result }
 {
     closed_by(read, links, closing).measure(steps)
 }
 
-// Shifts along the cycle that a step closes, and cuts the links.
+// Shifts along the cycle that a step closes, and cuts the links. A row for its steps is lent.
 fn take<N: Improvable>(
     net: &mut N,
     table: &mut Table<Arc, 448>,
     links: &mut [Option<Step>],
     ups: &mut [usize],
+    steps: &mut [Step],
     closing: Step,
 ) -> N::W
     requires paired { Paired table.old links.old ups.old }
@@ -98,6 +100,7 @@ fn take<N: Improvable>(
     requires long { (N.Network.net net.old).nodes ≤ length links.old }
     requires closes { Closing N.W.Worth.ops (N.Network.net net.old).nodes table.old links.old closing }
     requires links { OpenLinks table.old links.old }
+    requires room { (N.Network.net net.old).nodes ≤ length steps.old }
     ensures rises { Improves N.W.Worth.ops (N.Network.net net.old) (N.Network.net net.new) result }
     ensures kept { N.Improvable.alike net.old net.new }
     ensures read { table.new ≡ (N.Network.net net.new).arcs }
@@ -110,14 +113,14 @@ fn take<N: Improvable>(
         nodes,
         arcs: table.as_slice(),
     };
-    let mut steps = Table::new(closing);
-    let measure = measure_closed(before, links, closing, &mut steps);
-    let rise = shift(net, table, steps.as_slice(), measure);
+    let measure = measure_closed(before, links, closing, steps);
+    let cycle = &steps[..measure.count];
+    let rise = shift(net, table, cycle, measure);
     let after = Residual {
         nodes,
         arcs: table.as_slice(),
     };
-    cut(after, steps.as_slice(), links, ups);
+    cut(after, cycle, links, ups);
     rise
 }
 
@@ -131,6 +134,7 @@ pub(crate) fn climb_quickly<N: Improvable>(net: &mut N, potentials: &mut [N::W])
     read_arcs(net, &mut table);
     let mut links = no_links();
     let mut ups = no_ups();
+    let mut steps = no_steps();
     blank(potentials);
     let mut sum = N::W::none();
     let mut from = 0;
@@ -141,7 +145,7 @@ pub(crate) fn climb_quickly<N: Improvable>(net: &mut N, potentials: &mut [N::W])
         };
         match pass(residual, potentials, &mut links, &mut ups, from) {
             ControlFlow::Break(closing) => {
-                let rise = take(net, &mut table, &mut links, &mut ups, closing);
+                let rise = take(net, &mut table, &mut links, &mut ups, &mut steps, closing);
                 sum = sum.plus(rise);
                 from = arc_of(closing);
             }

@@ -107,17 +107,16 @@ fn take<N: Improvable>(
     ensures cut { Cut table.new links.old links.new }
     ensures paired { Paired table.new links.new ups.new }
 {
-    let (count, _) = net.counts();
-    let nodes = count as usize;
+    let (nodes, _) = net.counts();
     let before = Residual {
-        nodes,
+        nodes: nodes as usize,
         arcs: table.as_slice(),
     };
     let measure = measure_closed(before, links, closing, steps);
     let cycle = &steps[..measure.count];
     let rise = shift(net, table, cycle, measure);
     let after = Residual {
-        nodes,
+        nodes: nodes as usize,
         arcs: table.as_slice(),
     };
     cut(after, cycle, links, ups);

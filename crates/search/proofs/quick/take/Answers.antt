@@ -14,7 +14,7 @@ cut-requires-clause-within g c =
     let o = g.N.W.Worth.ops in
     let m = c.measure_closed-measure.result in
     let p = take m.count c.measure_closed-measure.new.steps in
-    let measured = subst₂ (λ n l. Measured o n l p m.amount m.gain) c.counts-count.ensures.0 (c.as_slice.ensures ∙ c.requires.read) c.measure_closed-measure.ensures.measured in
+    let measured = subst₂ (λ n l. Measured o n l p m.amount m.gain) c.counts-nodes.ensures.0 (c.as_slice.ensures ∙ c.requires.read) c.measure_closed-measure.ensures.measured in
     subst (λ l. All (λ t. head_of l t < length c.args.links.now) p) (sym (c.as_slice-2.ensures ∙ c.shift-rise.ensures.read)) (cycle_within (kind o g.met.N.W.Worth.lawful) (g.N.Network.net c.args.net.now) (g.met.N.Network.sound c.args.net.now) p measured c.shift-rise.ensures.rises.arcs c.requires.long)
 
 pub cut-requires-clause-links : goal.cut-requires-clause-links

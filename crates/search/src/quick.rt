@@ -59,31 +59,21 @@ fn pass<W: Worth>(
     Search::resume(net, potentials, links, ups).pass(from)
 }
 
-// The cycle that a step closes.
-fn closed_by<'a>(net: Residual<'a>, last: &'a [Option<Step>], closing: Step) -> Cycle<'a>
-    requires { net.nodes ≤ length last.now }
-    ensures net { result.links.net ≡ net.entry }
-    ensures last { result.links.last.now ≡ last.now }
-    ensures closing { result.closing ≡ closing }
-{
-    let links = Links { net, last };
-    Cycle { links, closing }
-}
-
 // Measures the cycle that a step closes, and puts its steps into a row.
 fn measure_closed<'a, W: Worth>(
-    read: Residual<'a>,
-    links: &'a [Option<Step>],
+    net: Residual<'a>,
+    last: &'a [Option<Step>],
     closing: Step,
     steps: &mut [Step],
 ) -> Measure<W>
-    requires long { read.nodes ≤ length links.now }
-    requires closes { Closing W.ops read.nodes read.arcs.now links.now closing }
-    requires room { read.nodes ≤ length steps.old }
+    requires long { net.nodes ≤ length last.now }
+    requires closes { Closing W.ops net.nodes net.arcs.now last.now closing }
+    requires room { net.nodes ≤ length steps.old }
     ensures few { result.count ≤ length steps.new }
-    ensures measured { Measures W.ops (net_of read.entry) (take result.count steps.new) result }
+    ensures measured { Measures W.ops (net_of net.entry) (take result.count steps.new) result }
 {
-    closed_by(read, links, closing).measure(steps)
+    let links = Links { net, last };
+    Cycle { links, closing }.measure(steps)
 }
 
 // Shifts along the cycle that a step closes, and cuts the links. A row for its steps is lent.

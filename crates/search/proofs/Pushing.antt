@@ -1,7 +1,7 @@
 -- A cycle shifted along, one push after another.
 use Rattle.std.proofs.Common.{◌≡◌, ℕ, suc, ◌+◌, ◌-◌, ◌*◌, ◌<◌, ◌≤◌, Bool, true, false, eqb, List, [], ◌∷◌, length, get_or, set, drop, drop-cons, sym, refl, ap, ◌∙◌, subst, subst₂, ⊎_elim, mul-le-mul, mul-one, mul-add, arith}
 use Rattle.std.proofs.lemmas.List.{drop_all, length-set, get_or-set_same, get_or-set_other}
-use Rattle.std.specs.List.{All, AllByRecursion, Contains}
+use Rattle.std.specs.List.{All, Contains}
 use Rattle.std.proofs.lemmas.List.Elements.{All-from_recursion}
 use Rattle.std.proofs.lemmas.Bool.{true≢false, cases_eq, eq-eqb, ne_eqb}
 use Rattle.worth.specs.Kinds.{Ops}
@@ -20,15 +20,7 @@ use Rattle.search.specs.Links.{SoundArcs, onto}
 use Rattle.search.specs.Cycles.{Measured, Takes, taken, FullAlong}
 use Rattle.search.specs.Outcomes.{Improves}
 use Rattle.search.proofs.Steps.{has_arc}
-use Rattle.search.proofs.Rounds.{onto_allows, residual_small}
-
-onto_each : (P : Step → Type 0) (q p : List Step) → AllByRecursion P (onto q p) → AllByRecursion P q
-onto_each P [] p a = tt
-onto_each P (t ∷ q) p a = ((below q (t ∷ p) a).0, onto_each P q (t ∷ p) a)
-  where
-    below : (q p : List Step) → AllByRecursion P (onto q p) → AllByRecursion P p
-    below [] p a = a
-    below (t ∷ q) p a = (below q (t ∷ p) a).1
+use Rattle.search.proofs.Rounds.{onto_first, onto_allows, residual_small}
 
 -- a list of arcs with the flow of one changed
 put_arcs : List Arc → ℕ → ℕ → List Arc
@@ -202,7 +194,7 @@ module _ {W : Type 0} (G : Kind W) (s : Net) (sound : Sound s) (p : List Step) {
 
   -- each step has an arc
   pub each_known : All (λ t. arc t < length s.arcs) p
-  each_known k f l = has_arc s.arcs (get_or p k f) (omega (arith, All-from_recursion (λ t. d ≤ residual M (flow_in s) t) p (onto_each (λ t. d ≤ residual M (flow_in s) t) p [] z.most.allowed) k f l, some_amount))
+  each_known k f l = has_arc s.arcs (get_or p k f) (omega (arith, All-from_recursion (λ t. d ≤ residual M (flow_in s) t) p (onto_first (λ t. d ≤ residual M (flow_in s) t) p [] z.most.allowed) k f l, some_amount))
 
   -- one step more
   module _ {k : ℕ} (l : k < length p) (f : Step) {m : Net} (b : Pushing G.ops s p d k m) where

@@ -2,6 +2,7 @@
 use Rattle.std.proofs.Common.{◌≡◌, ℕ, zero, suc, ◌+◌, ◌<◌, ◌≤◌, ◌==◌, true, false, min, List, [], ◌∷◌, ◌++◌, length, Some, Option, sym, refl, ap, ◌∙◌, subst, ap₂, append_assoc, length-append, take, arith}
 use Rattle.std.proofs.lemmas.Bool.{eq-eqb, ne_eqb}
 use Rattle.std.proofs.lemmas.List.{append-nil, length-take-le}
+use Rattle.std.specs.List.{AllByRecursion}
 use Rattle.worth.specs.Kinds.{Ops}
 use Rattle.flow.specs.Groups.{Kind}
 use Rattle.flow.specs.Graphs.{Graph}
@@ -35,13 +36,17 @@ module _ {W : Type 0} {o : Ops W} (y : Cycle) (z : Closes o y) where
   pub round_is : round y ≡ y.closing ∷ z.trail
   round_is = round_trail y.links.net.arcs.now y.links.last.now y.closing z.trail (length y.links.last.now) z.climbs (let l = z.short in let h = y.links.long in omega arith)
 
-pub onto_allows : {W : Type 0} (N : Graph W) (u : ℕ → ℕ) (d : ℕ) (q p : List Step) → Allows N u (onto q p) d → Allows N u p d
-onto_allows N u d [] p a = a
-onto_allows N u d (t ∷ q) p a = (onto_allows N u d q (t ∷ p) a).1
+-- what holds of each of the steps put together holds of both parts
+pub onto_last : (P : Step → Type 0) (q p : List Step) → AllByRecursion P (onto q p) → AllByRecursion P p
+onto_last P [] p a = a
+onto_last P (t ∷ q) p a = (onto_last P q (t ∷ p) a).1
 
-onto_length : (q p : List Step) → length (onto q p) ≡ length q + length p
-onto_length [] p = omega arith
-onto_length (t ∷ q) p = omega (arith, onto_length q (t ∷ p))
+pub onto_first : (P : Step → Type 0) (q p : List Step) → AllByRecursion P (onto q p) → AllByRecursion P q
+onto_first P [] p a = tt
+onto_first P (t ∷ q) p a = ((onto_last P q (t ∷ p) a).0, onto_first P q (t ∷ p) a)
+
+pub onto_allows : {W : Type 0} (N : Graph W) (u : ℕ → ℕ) (d : ℕ) (q p : List Step) → Allows N u (onto q p) d → Allows N u p d
+onto_allows N u d q p a = onto_last (λ t. d ≤ residual N u t) q p a
 
 pub residual_small : {W : Type 0} (o : Ops W) (n : ℕ) (ls : List Arc) → SoundArcs n ls → (t : Step) → residual (net o n ls) (flow_of ls) t ≤ 1000
 residual_small o n ls z (Forward j) = omega (arith, (bounded n ls z j).small)

@@ -1,15 +1,17 @@
 -- Clearing, rise by rise.
-use Rattle.std.proofs.Common.{◌≡◌, ◌+◌, ◌<◌, ◌≤◌, List, Ok, Err, Result, sym, refl, ap, ◌∙◌, subst, arith, None, Option, Some}
+use Rattle.std.proofs.Common.{◌≡◌, ℕ, ◌++◌, length, drop, ◌+◌, ◌<◌, ◌≤◌, List, Ok, Err, Result, sym, refl, ap, ◌∙◌, subst, arith, None, Option, Some}
 use Rattle.worth.specs.Kinds.{Ops, Laws}
 use Rattle.tables.specs.declared.refusal.Refusal.{Refusal}
 use Rattle.flow.specs.Groups.{kind}
 use Rattle.flow.proofs.Group.{unit_right}
-use Rattle.network.specs.Networks.{Net, Sound, graph, value}
+use Rattle.network.specs.Networks.{Net, Sound, flow_in, graph, value}
 use Rattle.network.proofs.Worths.{value_small}
-use Rattle.network.specs.Potentials.{Fitted}
+use Rattle.network.specs.Potentials.{potential, Fitted}
 use Rattle.search.specs.Outcomes.{Climb, still, more, Idle, Beyond, Improving, Clearing}
 use Rattle.search.proofs.Standing.{climb_value}
 use Rattle.search.proofs.Beaten.{beats, measure_falls}
+use Rattle.search.proofs.Working.{fitted, beyond}
+use Rattle.search.proofs.Idle.{no_cycle}
 
 -- how large rises can be
 pub less_small : {W : Type 0} {o : Ops W} (laws : Laws o) (s t : Net) (x : W) → Sound s → Sound t → x ≡ o.plus (value o t) (o.neg (value o s)) → o.size x ≤ 896000
@@ -27,6 +29,15 @@ climb_small {o = o} laws {s} {t} {sum} c p q = less_small laws s t sum p q (sym 
 pub record UnderWay {W : Type 0} (o : Ops W) (s t : Net) (work work' : List W) (sum : W) : Type 0 where
   pub climb : Climb o s sum t
   pub beyond : Beyond o s.nodes work work'
+
+-- where quick cycles end best, clearing is done
+pub best_at_once : {W : Type 0} {o : Ops W} (laws : Laws o) (s t : Net) → Sound s → Sound t → (work ys : List W) (k : ℕ) → k ≡ s.nodes → k ≤ length work → length ys ≡ k → {sum : W} → Climb o s sum t × Fitted o t ys → Clearing o s t work (ys ++ drop k work) (Ok sum)
+best_at_once {o = o} laws s t p q work ys k is enough long c = (
+  c.0,
+  fitted o t q work ys k (let e = climb_nodes c.0 in omega arith) (let e = climb_nodes c.0 in omega arith) long c.1,
+  beyond o s p work ys k is (omega arith) long,
+  no_cycle (kind o laws) (graph o t) (potential o ys) (flow_in t) c.1.fits,
+)
 
 -- the next improve takes the network t and the work table work₁ to u and work₂
 module _ {W : Type 0} {o : Ops W} (laws : Laws o) {s t : Net} {work work₁ : List W} {sum : W} (w : UnderWay o s t work work₁ sum) (u : Net) (work₂ : List W) where

@@ -3,6 +3,7 @@ pub mod Ways
 pub mod Forests
 pub mod Rounds
 pub mod Pushing
+pub mod Along
 pub mod Raising
 pub mod Working
 pub mod Idle

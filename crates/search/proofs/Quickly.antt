@@ -1,31 +1,27 @@
 -- Passes, cuts, and cycles taken one after another.
-use Rattle.std.proofs.Common.{get_or, set, drop, drop-cons, ◌≡◌, ℕ, zero, suc, [], ◌∷◌, ◌+◌, ◌*◌, ◌<◌, ◌≤◌, ◌⊎◌, inl, inr, Bool, true, false, List, length, None, Some, Option, sym, refl, ap, ◌∙◌, subst, subst₂, ap₂, ⊎_elim, arith}
+use Rattle.std.proofs.Common.{get_or, set, drop, drop-cons, ◌≡◌, ℕ, zero, suc, [], ◌∷◌, ◌+◌, ◌*◌, ◌<◌, ◌≤◌, ◌⊎◌, inl, inr, Bool, false, List, length, None, Some, Option, sym, refl, ap, ◌∙◌, subst, subst₂, ap₂, ⊎_elim, arith}
 use Rattle.std.specs.List.{All, Contains}
 use Rattle.std.proofs.lemmas.Bool.{cases_eq, cases_lt}
 use Rattle.std.proofs.lemmas.List.{drop_all, get_or_past, length-set, get_or-set_same, get_or-set_other}
-use Rattle.std.specs.declared.ops.ControlFlow.TheVariants.{Continue, Break}
-use Rattle.flow.specs.Groups.{Kind, Lt, Le}
-use Rattle.flow.specs.Arcs.{arc_at, net, SameArcs}
+use Rattle.std.specs.declared.ops.ControlFlow.TheVariants.{Continue}
+use Rattle.flow.specs.Groups.{Kind, Le}
+use Rattle.flow.specs.Arcs.{SameArcs}
 use Rattle.flow.specs.Steps.{arc, step_worth}
 use Rattle.flow.specs.declared.arc.Arc.{Arc}
 use Rattle.flow.specs.declared.step.Step.{Step}
 use Rattle.flow.specs.declared.step.Step.TheVariants.{Forward, Backward}
 use Rattle.flow.proofs.Rows.{net_same, same_all}
-use Rattle.network.specs.Potentials.{potential}
+use Rattle.network.specs.Potentials.{potential, Fitted}
 use Rattle.network.specs.Networks.{Net, Sound}
 use Rattle.worth.specs.Kinds.{Ops, Laws}
 use Rattle.search.specs.Links.{SoundArcs, tail_of, head_of, residual_of, link, Unlinked, OpenLinks, OpenBut, Up, Paired}
-use Rattle.search.specs.Sweeps.{Small, offer, Joined, Forest, Closing, Relaxed}
-use Rattle.search.specs.Searches.{Same, Growing, RisesAlong}
-use Rattle.flow.proofs.Group.{unit_right}
-use Rattle.std.proofs.lemmas.List.{get_or_default}
-use Rattle.search.specs.Passes.{Cut, Went, Passed}
+use Rattle.search.specs.Sweeps.{Small, Joined, Forest, Closing}
+use Rattle.search.specs.Passes.{Cut, Went, Passed, Swept}
 use Rattle.search.specs.Cycles.{Measured, FullAlong}
 use Rattle.search.specs.Outcomes.{Climb, still, more, Improves}
-use Rattle.search.specs.declared.sweep.Search.{Search}
-use Rattle.search.proofs.Forests.{head_in, step_small, bare}
+use Rattle.search.proofs.Forests.{head_in, bare}
 use Rattle.search.proofs.Pushing.{each_known}
-use Rattle.search.proofs.Raising.{same_on}
+use Rattle.search.proofs.Raising.{still_fits}
 use Rattle.search.proofs.Ways.{none_some, same_some, bare_paired}
 use Rattle.search.proofs.Clearing.{less_small, climb_small}
 
@@ -34,93 +30,6 @@ pub record Cutting (ls : List Arc) (p : List Step) (ks ks' : List (Option Step))
   pub long : length ks' ≡ length ks
   pub each : (v : ℕ) → ((link ks' v ≡ None) × ((s : Step) → link ks v ≡ Some s → residual_of ls s ≡ 0)) ⊎ (link ks' v ≡ link ks v)
   pub left : OpenBut ls (drop k p) ks'
-
--- the search t has come from s by relaxing k steps
-pub record WentTo {W : Type 0} (o : Ops W) (s t : Search W) (k : ℕ) : Type 0 where
-  pub same : Same s t
-  pub went : Went o s.net.nodes s.net.arcs.now s.potentials.now t.potentials.now t.links.now k
-
-module _ {W : Type 0} (G : Kind W) (n : ℕ) (ls : List Arc) where
-  went_on : (xs xs₁ xs₂ : List W) (ks₁ ks₂ : List (Option Step)) (k : ℕ) (s : Step) (r : Bool) → arc s < length ls → Went G.ops n ls xs xs₁ ks₁ k → Relaxed G.ops n ls xs₁ ks₁ xs₂ ks₂ s (Continue r) → Went G.ops n ls xs xs₂ ks₂ (k + 1)
-  went_on xs xs₁ xs₂ ks₁ ks₂ k s false known w o = subst₂ (λ ys js. Went G.ops n ls xs ys js (k + 1)) (sym o.1) (sym o.2) (record { forest = w.forest; sizes = λ b h v. let q = w.sizes b h v in omega arith })
-  went_on xs xs₁ xs₂ ks₁ ks₂ k s true known o' o = record { forest = o.3; sizes = sizes }
-    where
-      v : ℕ
-      v = head_of ls s
-
-      v_in : v < n
-      v_in = head_in G n ls o'.forest.sound s known
-
-      at_v : potential G.ops xs₂ v ≡ offer G.ops n ls xs₁ s
-      at_v = ap (λ ys. potential G.ops ys v) o.1 ∙ get_or-set_same xs₁ v (offer G.ops n ls xs₁ s) G.ops.none (let a = v_in in let b = o'.forest.potentials_long in omega arith)
-
-      off_v : (x : ℕ) → (x ≡ v → ⊥) → potential G.ops xs₂ x ≡ potential G.ops xs₁ x
-      off_v x d = ap (λ ys. potential G.ops ys x) o.1 ∙ get_or-set_other xs₁ v x (offer G.ops n ls xs₁ s) G.ops.none d
-
-      sizes : (b : ℕ) → Small G.ops b xs → Small G.ops (b + (k + 1)) xs₂
-      sizes b h x = ⊎_elim (λ e. omega (arith, ap G.ops.size (ap (potential G.ops xs₂) e ∙ at_v), G.laws.size_plus (potential G.ops xs₁ (tail_of ls s)) (step_worth G.ops (net G.ops n ls) s), o'.sizes b h (tail_of ls s), step_small G n ls o'.forest.sound s)) (λ d. omega (arith, ap G.ops.size (off_v x d), o'.sizes b h x)) (cases_eq x v)
-
-  went_closed : (xs xs₁ xs₂ : List W) (ks₁ ks₂ : List (Option Step)) (k : ℕ) (s t : Step) → k ≤ 896 → Went G.ops n ls xs xs₁ ks₁ k → Relaxed G.ops n ls xs₁ ks₁ xs₂ ks₂ s (Break t) → Passed G.ops n ls xs xs₂ ks₂ (Break t)
-  went_closed xs xs₁ xs₂ ks₁ ks₂ k s t few w o = (subst₂ (λ ys js. Went G.ops n ls xs ys js 896) (sym o.2) (sym o.3) (record { forest = w.forest; sizes = λ b h v. let q = w.sizes b h v in omega arith }), o.1)
-
-module _ {W : Type 0} (G : Kind W) {s t : Search W} {k : ℕ} (w : WentTo G.ops s t k) where
-  pub may_go : Small G.ops 999000 s.potentials.now → k ≤ 1000 → Growing G.ops 1000000 t
-  may_go r h = record { forest = subst (λ n. Forest G.ops n.nodes n.arcs.now t.potentials.now t.links.now) (sym w.same.net) w.went.forest; small = λ v. let z = w.went.sizes 999000 r v in omega arith }
-
-  module _ {u : Search W} (same : Same t u) (step : Step) where
-    pub goes_on : arc step < length s.net.arcs.now → (r : Bool) → Relaxed G.ops t.net.nodes t.net.arcs.now t.potentials.now t.links.now u.potentials.now u.links.now step (Continue r) → {k' : ℕ} → k' ≡ k + 1 → WentTo G.ops s u k'
-    goes_on known r o next = record {
-      same = same_on w.same same;
-      went = subst (Went G.ops s.net.nodes s.net.arcs.now s.potentials.now u.potentials.now u.links.now) (sym next) (went_on G s.net.nodes s.net.arcs.now s.potentials.now t.potentials.now u.potentials.now t.links.now u.links.now k step r known w.went (subst (λ n. Relaxed G.ops n.nodes n.arcs.now t.potentials.now t.links.now u.potentials.now u.links.now step (Continue r)) w.same.net o));
-    }
-
-    pub goes_to : (x : Step) → k ≤ 896 → Relaxed G.ops t.net.nodes t.net.arcs.now t.potentials.now t.links.now u.potentials.now u.links.now step (Break x) → Passed G.ops s.net.nodes s.net.arcs.now s.potentials.now u.potentials.now u.links.now (Break x)
-    goes_to x few o = went_closed G s.net.nodes s.net.arcs.now s.potentials.now t.potentials.now u.potentials.now t.links.now u.links.now k step x few w.went (subst (λ n. Relaxed G.ops n.nodes n.arcs.now t.potentials.now t.links.now u.potentials.now u.links.now step (Break x)) w.same.net o)
-
-  pub waits : {k' : ℕ} → k' ≡ k + 1 → WentTo G.ops s t k'
-  waits next = record { same = w.same; went = record { forest = w.went.forest; sizes = λ b h v. let q = w.went.sizes b h v in omega arith } }
-
-  pub gone : k ≤ 896 → (moved : Bool) → Passed G.ops s.net.nodes s.net.arcs.now s.potentials.now t.potentials.now t.links.now (Continue moved)
-  gone few moved = record { forest = w.went.forest; sizes = λ b h v. let q = w.went.sizes b h v in omega arith }
-
--- what the sum along an arc tells of the step backward
-module _ {W : Type 0} (G : Kind W) {s : Search W} {b : ℕ} (grows : Growing G.ops b s) (i : ℕ) (known : i < length s.net.arcs.now) where
-  abbrev a : Arc
-  a = arc_at s.net.arcs.now i
-
-  abbrev at : ℕ → W
-  at v = potential G.ops s.potentials.now v
-
-  from_in : a.from < s.net.nodes
-  from_in = (grows.forest.sound i known).from_in
-
-  to_in : a.to < s.net.nodes
-  to_in = (grows.forest.sound i known).to_in
-
-  reads : {v k : ℕ} → v ≡ k → k < s.net.nodes → (d : W) → get_or s.potentials.now v d ≡ at k
-  reads {v} {k} is l d = get_or_default s.potentials.now v d G.ops.none (omega (arith, grows.forest.potentials_long)) ∙ ap at is
-
-  module _ {v w : ℕ} (v-is : v ≡ a.from) (w-is : w ≡ a.to) (d e : W) {u : W} (unit : u ≡ G.ops.unit a.price a.weeks) {x : W} (x-is : x ≡ G.ops.plus (get_or s.potentials.now v d) u) where
-    sum_is : x ≡ G.ops.plus (at a.from) (G.ops.unit a.price a.weeks)
-    sum_is = x-is ∙ ap₂ G.ops.plus (reads v-is from_in d) unit
-
-    pub backward_rises : 0 < a.flow → G.ops.less x (get_or s.potentials.now w e) ≡ true → {y : W} → y ≡ G.ops.plus (get_or s.potentials.now w e) (G.ops.neg u) → RisesAlong G.ops s i (Some (Backward i, y))
-    backward_rises room less {y} y-is = (refl, (room, offered, subst₂ (Lt G.ops) back (sym offered) (shifted ∙ lower)))
-      where
-        c : W
-        c = G.ops.unit a.price a.weeks
-
-        offered : y ≡ G.ops.plus (at a.to) (G.ops.neg c)
-        offered = y-is ∙ ap₂ G.ops.plus (reads w-is to_in e) (ap G.ops.neg unit)
-
-        lower : G.ops.less (G.ops.plus (at a.from) c) (at a.to) ≡ true
-        lower = subst₂ (Lt G.ops) sum_is (reads w-is to_in e) less
-
-        shifted : G.ops.less (G.ops.plus (G.ops.plus (at a.from) c) (G.ops.neg c)) (G.ops.plus (at a.to) (G.ops.neg c)) ≡ G.ops.less (G.ops.plus (at a.from) c) (at a.to)
-        shifted = G.laws.shifted (G.ops.plus (at a.from) c) (at a.to) (G.ops.neg c)
-
-        back : G.ops.plus (G.ops.plus (at a.from) c) (G.ops.neg c) ≡ at a.from
-        back = G.laws.assoc (at a.from) c (G.ops.neg c) ∙ ap (G.ops.plus (at a.from)) (G.laws.inverse c) ∙ unit_right G (at a.from)
 
 -- the ends of a step are those of the same arc
 tail_same : (ls ms : List Arc) → SameArcs ls ms → (s : Step) → tail_of ls s ≡ tail_of ms s
@@ -214,13 +123,13 @@ forest_cut G n ls ms xs ks js f e z c = record {
         }
 
 -- after k passes: what has become of the network s, with the sum of the rises
-pub record Running {W : Type 0} (o : Ops W) (s t : Net) (ls : List Arc) (xs : List W) (ks : List (Option Step)) (us : List ℕ) (sum : W) (from k : ℕ) : Type 0 where
+pub record Running {W : Type 0} (o : Ops W) (s t : Net) (ls : List Arc) (xs : List W) (ks : List (Option Step)) (us : List ℕ) (sum : W) (first k : ℕ) : Type 0 where
   pub climb : Climb o s sum t
   pub read : ls ≡ t.arcs
   pub paired : Paired ls ks us
   pub forest : Forest o t.nodes t.arcs xs ks
-  pub small : Small o (896 * k) xs
-  pub start : from ≤ length t.arcs
+  pub small : Small o (448 * k) xs
+  pub start : first ≤ length t.arcs
 
 module _ {W : Type 0} (G : Kind W) where
   pub run_first : (s : Net) (z : Sound s) (ls : List Arc) → ls ≡ s.arcs → (xs : List W) → length xs ≡ s.nodes → ((v : ℕ) → potential G.ops xs v ≡ G.ops.none) → (ks : List (Option Step)) → length ks ≡ 272 → Unlinked ks → (us : List ℕ) → length us ≡ 272 → ((v : ℕ) → v < 272 → get_or us v 0 ≡ 272) → (sum : W) → sum ≡ G.ops.none → Running G.ops s s ls xs ks us sum 0 0
@@ -233,21 +142,28 @@ module _ {W : Type 0} (G : Kind W) where
     start = omega arith;
   }
 
-  module _ {s t : Net} {ls : List Arc} {xs : List W} {ks : List (Option Step)} {us : List ℕ} {sum : W} {from k : ℕ} (r : Running G.ops s t ls xs ks us sum from k) where
+  module _ {s t : Net} {ls : List Arc} {xs : List W} {ks : List (Option Step)} {us : List ℕ} {sum : W} {first k : ℕ} (r : Running G.ops s t ls xs ks us sum first k) where
     pub run_small : k < 1000 → Small G.ops 999000 xs
     run_small h v = let q = r.small v in omega arith
 
-    module _ {xs' : List W} {ks' : List (Option Step)} (w : Went G.ops t.nodes t.arcs xs xs' ks' 896) where
-      pub run_moved : {us' : List ℕ} → Paired ls ks' us' → {k' : ℕ} → k' ≡ k + 1 → Running G.ops s t ls xs' ks' us' sum 0 k'
-      run_moved paired next = record { climb = r.climb; read = r.read; paired = paired; forest = w.forest; small = λ v. let q = w.sizes (896 * k) r.small v in omega arith; start = omega arith }
+    -- where a pass over all arcs raises nothing, the potentials fit
+    pub run_best : length t.arcs ≤ 448 → k < 1000 → {xs' : List W} {ks' : List (Option Step)} {moved : Bool} → moved ≡ false → first ≡ 0 → Passed G.ops t.nodes t.arcs first xs ks xs' ks' (Continue moved) → Fitted G.ops t xs'
+    run_best few early {xs'} {ks'} {moved} unmoved start p = record { enough = let h = z.went.forest.potentials_long in omega arith; fits = still_fits G t.nodes t.arcs z; small = λ v l. let q = z.went.sizes (448 * k) r.small v in omega arith }
+      where
+        z : Swept G.ops t.nodes t.arcs 0 (length t.arcs) xs ks xs' ks' false
+        z = subst₂ (λ j b. Swept G.ops t.nodes t.arcs j (length t.arcs) xs ks xs' ks' b) start unmoved p
 
-      pub run_taken : (u : Net) → Sound u → {ms : List Arc} {js : List (Option Step)} {vs : List ℕ} {rise sum' : W} (step : Step) → Closing G.ops t.nodes t.arcs ks' step → Improves G.ops t u rise → ms ≡ u.arcs → Cut ms ks' js → Paired ms js vs → sum' ≡ G.ops.plus sum rise → {from' k' : ℕ} → from' ≡ arc step → k' ≡ k + 1 → Running G.ops s u ms xs' js vs sum' from' k'
-      run_taken u z {ms} {js} {rise} step closing i read cut paired sum-is from-is next = record {
+    module _ (few : length t.arcs ≤ 448) {xs' : List W} {ks' : List (Option Step)} (w : Went G.ops t.nodes t.arcs xs xs' ks' (length t.arcs)) where
+      pub run_moved : {us' : List ℕ} → Paired ls ks' us' → {k' : ℕ} → k' ≡ k + 1 → Running G.ops s t ls xs' ks' us' sum 0 k'
+      run_moved paired next = record { climb = r.climb; read = r.read; paired = paired; forest = w.forest; small = λ v. let q = w.sizes (448 * k) r.small v in omega arith; start = omega arith }
+
+      pub run_taken : (u : Net) → Sound u → {ms : List Arc} {js : List (Option Step)} {vs : List ℕ} {rise sum' : W} (step : Step) → Closing G.ops t.nodes t.arcs ks' step → Improves G.ops t u rise → ms ≡ u.arcs → Cut ms ks' js → Paired ms js vs → sum' ≡ G.ops.plus sum rise → {first' k' : ℕ} → first' ≡ arc step → k' ≡ k + 1 → Running G.ops s u ms xs' js vs sum' first' k'
+      run_taken u z {ms} {js} {rise} step closing i read cut paired sum-is first-is next = record {
         climb = subst (λ x. Climb G.ops s x u) (sym sum-is) (more r.climb i);
         read = read;
         paired = paired;
         forest = subst (λ m. Forest G.ops m u.arcs xs' js) (sym i.nodes) (forest_cut G t.nodes t.arcs u.arcs xs' ks' js w.forest i.arcs (subst (λ m. SoundArcs m u.arcs) i.nodes z.each) (subst (λ l. Cut l ks' js) read cut));
-        small = λ v. let q = w.sizes (896 * k) r.small v in omega arith;
+        small = λ v. let q = w.sizes (448 * k) r.small v in omega arith;
         start = let a = closing.known in let b = i.arcs.long in omega arith;
       }
 

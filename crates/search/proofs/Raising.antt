@@ -1,57 +1,28 @@
--- Steps relaxed one after another, and sweep after sweep.
-use Rattle.std.proofs.Common.{get_or, ◌≡◌, ℕ, zero, suc, [], ◌∷◌, ◌+◌, ◌*◌, ◌<◌, ◌≤◌, Bool, true, false, ◌||◌, List, length, set, Some, Option, sym, refl, ap, ◌∙◌, subst, ap₂, subst₂, ⊎_elim, arith}
+-- Arcs gone over one after another, and pass after pass.
+use Rattle.std.proofs.Common.{◌≡◌, ℕ, suc, ◌+◌, ◌*◌, ◌<◌, ◌≤◌, ◌⊎◌, inl, inr, Bool, true, false, List, length, set, Some, None, Option, sym, refl, ap, ◌∙◌, subst, ap₂, subst₂, ⊎_elim, arith}
 use Rattle.std.proofs.lemmas.Bool.{cases_eq, true≢false, cases_lt}
-use Rattle.std.proofs.lemmas.List.{get_or-set_same, get_or-set_other, get_or_default}
-use Rattle.std.specs.Bool.{then_some}
+use Rattle.std.proofs.lemmas.List.{get_or-set_same, get_or-set_other}
 use Rattle.flow.specs.Groups.{Kind, Lt, Le}
-use Rattle.flow.specs.Graphs.{Graph, Sound}
+use Rattle.flow.specs.Graphs.{Graph, Sound, Fits}
 use Rattle.flow.specs.Arcs.{net, flow_of}
 use Rattle.flow.specs.Steps.{arc, Open, step_worth}
 use Rattle.flow.specs.declared.arc.Arc.{Arc}
 use Rattle.flow.specs.declared.step.Step.{Step}
 use Rattle.flow.specs.declared.step.Step.TheVariants.{Forward, Backward}
-use Rattle.flow.proofs.Group.{le_trans, le_right, lt_le, le_lt_trans, le_eq, le_lt_absurd}
+use Rattle.flow.proofs.Group.{unit_right, redo, le_trans, le_right, lt_le, le_lt_trans, le_eq, le_lt_absurd}
 use Rattle.flow.proofs.Reach.{reach, sweep_above, fits_from}
 use Rattle.network.specs.Potentials.{potential}
-use Rattle.std.specs.declared.ops.ControlFlow.TheVariants.{Continue}
+use Rattle.std.specs.declared.ops.ControlFlow.TheVariants.{Continue, Break}
 use Rattle.search.specs.Links.{tail_of, head_of, residual_of, Linked, Rooted, Told}
-use Rattle.search.specs.Sweeps.{code, Small, Low, offer, Offered, Forest, Closing, Relaxed, Swept, Sweeps}
-use Rattle.search.specs.Searches.{Same, Growing}
+use Rattle.search.specs.Sweeps.{Small, Low, offer, Offered, Forest, Closing, Raised, Found}
+use Rattle.search.specs.Passes.{Went, Swept, Passed}
+use Rattle.search.specs.Searches.{Same, Growing, RisesAlong, Finds}
 use Rattle.search.specs.declared.sweep.Search.{Search}
 use Rattle.worth.specs.Kinds.{Ops}
 use Rattle.search.proofs.Steps.{has_arc}
 use Rattle.search.proofs.Forests.{tail_in, head_in, step_small, forest_linked, forest_rooted, way_short, under, closes, grown, set_low}
 
-arc_code : (s : Step) (m : ℕ) → arc s < m → code s < 2 * m
-arc_code (Forward i) m h = omega arith
-arc_code (Backward i) m h = omega arith
-
--- the two steps along an arc
-pub both_code : (p : List Step) (i k : ℕ) (d : Step) → p ≡ Forward i ∷ Backward i ∷ [] → k < 2 → code (get_or p k d) ≡ 2 * i + k
-both_code p i zero d e h = rw e (omega arith)
-both_code p i (suc zero) d e h = rw e refl
-both_code p i (suc (suc k)) d e h = absurd (omega arith)
-
-pub both_arc : (p : List Step) (i k : ℕ) (d : Step) → p ≡ Forward i ∷ Backward i ∷ [] → k < 2 → arc (get_or p k d) ≡ i
-both_arc p i zero d e h = rw e refl
-both_arc p i (suc zero) d e h = rw e refl
-both_arc p i (suc (suc k)) d e h = absurd (omega arith)
-
-one_code : (s t : Step) → code s ≡ code t → s ≡ t
-one_code (Forward i) (Forward j) e = let f : i ≡ j = omega arith in ap Forward f
-one_code (Forward i) (Backward j) e = absurd (omega arith)
-one_code (Backward i) (Forward j) e = absurd (omega arith)
-one_code (Backward i) (Backward j) e = let f : i ≡ j = omega arith in ap Backward f
-
-or_false : (b : Bool) → b ≡ (b || false)
-or_false true = refl
-or_false false = refl
-
-or_true : (b : Bool) → true ≡ (b || true)
-or_true true = refl
-or_true false = refl
-
--- one step relaxed
+-- a step's head raised
 module _ {W : Type 0} (G : Kind W) {s : Search W} {b : ℕ} (grows : Growing G.ops b s) where
   abbrev ls : List Arc
   ls = s.net.arcs.now
@@ -74,25 +45,6 @@ module _ {W : Type 0} (G : Kind W) {s : Search W} {b : ℕ} (grows : Growing G.o
     pub rooted : Rooted ls s.links.now (tail_of ls t)
     rooted = forest_rooted G s.net.nodes ls s.potentials.now s.links.now grows.forest (tail_of ls t) from_node
 
-    -- what is read at a node, whatever default it is read with
-    pub read : (v k : ℕ) (d : W) → v ≡ k → k < s.net.nodes → get_or s.potentials.now v d ≡ potential G.ops s.potentials.now k
-    read v k d is l = get_or_default s.potentials.now v d G.ops.none (omega (arith, grows.forest.potentials_long)) ∙ ap (potential G.ops s.potentials.now) is
-
-    -- what is read at its tail, and what it is worth
-    module _ {from : ℕ} (from-is : from ≡ tail_of ls t) (here : W) {worth : W} (worth-is : worth ≡ step_worth G.ops (net G.ops s.net.nodes ls) t) where
-      pub can_add : b ≤ 1000000 → G.ops.size (get_or s.potentials.now from here) + G.ops.size worth ≤ 4194304
-      can_add few = omega (arith, ap G.ops.size (read from (tail_of ls t) here from-is from_node), grows.small (tail_of ls t), ap G.ops.size worth-is, step_small G s.net.nodes ls grows.forest.sound t)
-
-      pub offers : {to : ℕ} → to ≡ head_of ls t → (there : W) {x : W} → x ≡ G.ops.plus (get_or s.potentials.now from here) worth → {more : Bool} → more ≡ G.ops.less (get_or s.potentials.now to there) x → Offered G.ops s.net.nodes ls s.potentials.now t (then_some more x)
-      offers {to} to-is there {x} x-is {more} more-is = go more (sym (more-is ∙ ap₂ G.ops.less (read to (head_of ls t) there to-is to_node) is))
-        where
-          is : x ≡ offer G.ops s.net.nodes ls s.potentials.now t
-          is = x-is ∙ ap₂ G.ops.plus (read from (tail_of ls t) here from-is from_node) worth-is
-
-          go : (r : Bool) → G.ops.less (potential G.ops s.potentials.now (head_of ls t)) (offer G.ops s.net.nodes ls s.potentials.now t) ≡ r → Offered G.ops s.net.nodes ls s.potentials.now t (then_some r x)
-          go true e = (can, is, subst (Lt G.ops (potential G.ops s.potentials.now (head_of ls t))) (sym is) e)
-          go false e = λ l. e
-
   -- a step that offers more than there is
   module _ (t : Step) {o : W} (offered : Offered G.ops s.net.nodes ls s.potentials.now t (Some o)) where
     more : Lt G.ops (potential G.ops s.potentials.now (head_of ls t)) (offer G.ops s.net.nodes ls s.potentials.now t)
@@ -110,92 +62,130 @@ module _ {W : Type 0} (G : Kind W) {s : Search W} {b : ℕ} (grows : Growing G.o
           let c = closes G s.net.nodes ls s.potentials.now s.links.now grows.forest t (known t offered.0, offered.0) more q (rooted t offered.0).1 (λ fresh. true≢false (sym e ∙ (told_here q (rooted t offered.0).1).1 fresh)) in
           record { linked = linked; known = known t offered.0; trail = c.trail; climbs = c.climbs; short = let p = c.short in let h = way_short G s.net.nodes ls s.potentials.now s.links.now grows.forest (tail_of ls t) q (tail_in G s.net.nodes ls grows.forest.sound t (known t offered.0)) (rooted t offered.0).1 in omega arith; gainful = c.gainful }
 
-      pub raised : r ≡ false → Relaxed G.ops s.net.nodes ls s.potentials.now s.links.now (set s.potentials.now to o) (set s.links.now to (Some t)) t (Continue true)
+      pub raised : r ≡ false → Raised G.ops s.net.nodes ls s.potentials.now s.links.now (set s.potentials.now to o) (set s.links.now to (Some t)) t (Continue tt)
       raised e =
           let xs-set = ap₂ (set s.potentials.now) to-is offered.1 in
           let ks-set = ap (λ v. set s.links.now v (Some t)) to-is in
           (more, xs-set, ks-set, subst₂ (Forest G.ops s.net.nodes ls) (sym xs-set) (sym ks-set) (grown G s.net.nodes ls s.potentials.now s.links.now grows.forest t (known t offered.0, offered.0) more (rooted t offered.0).0 (rooted t offered.0).1 ((told_here (rooted t offered.0).0 (rooted t offered.0).1).0 e)))
 
+-- the step the other way along the same arc
+abbrev back : Step → Step
+back (Forward i) = Backward i
+back (Backward i) = Forward i
+
+back_tail : (bs : List Arc) (t : Step) → tail_of bs (back t) ≡ head_of bs t
+back_tail bs (Forward i) = refl
+back_tail bs (Backward i) = refl
+
+back_head : (bs : List Arc) (t : Step) → head_of bs (back t) ≡ tail_of bs t
+back_head bs (Forward i) = refl
+back_head bs (Backward i) = refl
+
+-- two steps along one arc are one step, or one the other back
+same_or_back : (s t : Step) → arc s ≡ arc t → (s ≡ t) ⊎ (s ≡ back t)
+same_or_back (Forward i) (Forward j) e = inl (ap Forward e)
+same_or_back (Forward i) (Backward j) e = inr (ap Forward e)
+same_or_back (Backward i) (Forward j) e = inr (ap Backward e)
+same_or_back (Backward i) (Backward j) e = inl (ap Backward e)
+
 module _ {W : Type 0} (G : Kind W) (n : ℕ) (ls : List Arc) where
   abbrev N : Graph W
   N = net G.ops n ls
 
-  module _ (xs xs₁ xs₂ : List W) (ks₁ ks₂ : List (Option Step)) (moved : Bool) (k : ℕ) (s₀ : Step) (number : code s₀ ≡ k) (w : Swept G.ops n ls xs xs₁ ks₁ moved k) where
-    -- what a step offered at first it offers still
+  -- there and back counts none
+  there_and_back : (x : W) (t : Step) → G.ops.plus (G.ops.plus x (step_worth G.ops N t)) (step_worth G.ops N (back t)) ≡ x
+  there_and_back x (Forward i) = G.laws.assoc x (N.unit i) (G.ops.neg (N.unit i)) ∙ ap (G.ops.plus x) (G.laws.inverse (N.unit i)) ∙ unit_right G x
+  there_and_back x (Backward i) = redo G x (N.unit i)
+
+  -- where a step offers more than there is at its head, the step back offers less than there is at its tail
+  back_offers : (xs : List W) (t : Step) → Lt G.ops (potential G.ops xs (head_of ls t)) (offer G.ops n ls xs t) → Le G.ops (offer G.ops n ls xs (back t)) (potential G.ops xs (head_of ls (back t)))
+  back_offers xs t more = subst₂ (λ v x. Le G.ops (G.ops.plus (potential G.ops xs v) (step_worth G.ops N (back t))) x) (sym (back_tail ls t)) (there_and_back (potential G.ops xs (tail_of ls t)) t ∙ ap (potential G.ops xs) (sym (back_head ls t))) (le_right G (potential G.ops xs (head_of ls t)) (offer G.ops n ls xs t) (step_worth G.ops N (back t)) (lt_le G (potential G.ops xs (head_of ls t)) (offer G.ops n ls xs t) more))
+
+  module _ {first k : ℕ} {xs xs₁ : List W} {ks ks₁ : List (Option Step)} {moved : Bool} (w : Swept G.ops n ls first k xs ks xs₁ ks₁ moved) where
+    -- what a step offered at first is no more than what it offers now
     lifts : (s : Step) → Open N (flow_of ls) s → Le G.ops (offer G.ops n ls xs s) (offer G.ops n ls xs₁ s)
-    lifts s p = le_right G (potential G.ops xs (tail_of ls s)) (potential G.ops xs₁ (tail_of ls s)) (step_worth G.ops N s) (w.up (tail_of ls s) (tail_in G n ls w.forest.sound s p.0))
+    lifts s p = le_right G (potential G.ops xs (tail_of ls s)) (potential G.ops xs₁ (tail_of ls s)) (step_worth G.ops N s) (w.up (tail_of ls s) (tail_in G n ls w.went.forest.sound s p.0))
 
-    kept : Relaxed G.ops n ls xs₁ ks₁ xs₂ ks₂ s₀ (Continue false) → Swept G.ops n ls xs xs₂ ks₂ moved (k + 1)
-    kept o = subst₂ (λ ys js. Swept G.ops n ls xs ys js moved (k + 1)) (sym o.1) (sym o.2) (record { forest = w.forest; low = w.low; up = w.up; done = done; rose = w.rose; same = w.same; sizes = λ b h v. let q = w.sizes b h v in omega arith })
-      where
-        here : (s : Step) → Open N (flow_of ls) s → code s ≡ k → Le G.ops (offer G.ops n ls xs s) (potential G.ops xs₁ (head_of ls s))
-        here s p e =
-            let is : s₀ ≡ s = one_code s₀ s (number ∙ sym e) in
-            le_trans G (offer G.ops n ls xs s) (offer G.ops n ls xs₁ s) (potential G.ops xs₁ (head_of ls s)) (lifts s p) (subst (λ t. 0 < residual_of ls t → Le G.ops (offer G.ops n ls xs₁ t) (potential G.ops xs₁ (head_of ls t))) is o.0 p.1)
+    -- neither step along arc k offers more
+    pub waits : ((s : Step) → arc s ≡ k → 0 < residual_of ls s → Le G.ops (offer G.ops n ls xs₁ s) (potential G.ops xs₁ (head_of ls s))) → Swept G.ops n ls first (k + 1) xs ks xs₁ ks₁ moved
+    waits settled = record {
+      went = record { forest = w.went.forest; sizes = λ b h v. let q = w.went.sizes b h v in omega arith };
+      low = w.low;
+      up = w.up;
+      done = λ s p f h. ⊎_elim (λ e. le_trans G (offer G.ops n ls xs s) (offer G.ops n ls xs₁ s) (potential G.ops xs₁ (head_of ls s)) (lifts s p) (settled s e p.1)) (λ d. w.done s p f (omega arith)) (cases_eq (arc s) k);
+      rose = w.rose;
+      same = w.same;
+    }
 
-        done : (s : Step) → Open N (flow_of ls) s → code s < k + 1 → Le G.ops (offer G.ops n ls xs s) (potential G.ops xs₁ (head_of ls s))
-        done s p h = ⊎_elim (λ e. here s p e) (λ d. w.done s p (omega arith)) (cases_eq (code s) k)
+    -- or one does, and its head is raised
+    module _ {xs₂ : List W} {ks₂ : List (Option Step)} (t : Step) (along : arc t ≡ k) (known : k < length ls) (o : Raised G.ops n ls xs₁ ks₁ xs₂ ks₂ t (Continue tt)) where
+      abbrev v : ℕ
+      v = head_of ls t
 
-    raised_from : arc s₀ < length ls → Relaxed G.ops n ls xs₁ ks₁ xs₂ ks₂ s₀ (Continue true) → Swept G.ops n ls xs xs₂ ks₂ true (k + 1)
-    raised_from known o = record { forest = o.3; low = low; up = λ x l. le_trans G (potential G.ops xs x) (potential G.ops xs₁ x) (potential G.ops xs₂ x) (w.up x l) (higher x); done = done; rose = λ e. (v, v_in, le_lt_trans G (potential G.ops xs v) (potential G.ops xs₁ v) (potential G.ops xs₂ v) (w.up v v_in) (subst (Lt G.ops (potential G.ops xs₁ v)) (sym at_v) o.0)); same = λ e. absurd (true≢false e); sizes = sizes }
-      where
-        v : ℕ
-        v = head_of ls s₀
+      v_in : v < n
+      v_in = head_in G n ls w.went.forest.sound t (omega arith)
 
-        v_in : v < n
-        v_in = head_in G n ls w.forest.sound s₀ known
+      at_v : potential G.ops xs₂ v ≡ offer G.ops n ls xs₁ t
+      at_v = ap (λ ys. potential G.ops ys v) o.1 ∙ get_or-set_same xs₁ v (offer G.ops n ls xs₁ t) G.ops.none (let a = v_in in let b = w.went.forest.potentials_long in omega arith)
 
-        at_v : potential G.ops xs₂ v ≡ offer G.ops n ls xs₁ s₀
-        at_v = ap (λ ys. potential G.ops ys v) o.1 ∙ get_or-set_same xs₁ v (offer G.ops n ls xs₁ s₀) G.ops.none (let a = v_in in let b = w.forest.potentials_long in omega arith)
+      off_v : (x : ℕ) → (x ≡ v → ⊥) → potential G.ops xs₂ x ≡ potential G.ops xs₁ x
+      off_v x d = ap (λ ys. potential G.ops ys x) o.1 ∙ get_or-set_other xs₁ v x (offer G.ops n ls xs₁ t) G.ops.none d
 
-        off_v : (x : ℕ) → (x ≡ v → ⊥) → potential G.ops xs₂ x ≡ potential G.ops xs₁ x
-        off_v x d = ap (λ ys. potential G.ops ys x) o.1 ∙ get_or-set_other xs₁ v x (offer G.ops n ls xs₁ s₀) G.ops.none d
+      higher : (x : ℕ) → Le G.ops (potential G.ops xs₁ x) (potential G.ops xs₂ x)
+      higher x = ⊎_elim (λ e. subst (λ y. Le G.ops (potential G.ops xs₁ y) (potential G.ops xs₂ y)) (sym e) (subst (Le G.ops (potential G.ops xs₁ v)) (sym at_v) (lt_le G (potential G.ops xs₁ v) (offer G.ops n ls xs₁ t) o.0))) (λ d. le_eq G (potential G.ops xs₁ x) (potential G.ops xs₂ x) (sym (off_v x d))) (cases_eq x v)
 
-        higher : (x : ℕ) → Le G.ops (potential G.ops xs₁ x) (potential G.ops xs₂ x)
-        higher x = ⊎_elim (λ e. subst (λ y. Le G.ops (potential G.ops xs₁ y) (potential G.ops xs₂ y)) (sym e) (subst (Le G.ops (potential G.ops xs₁ v)) (sym at_v) (lt_le G (potential G.ops xs₁ v) (offer G.ops n ls xs₁ s₀) o.0))) (λ d. le_eq G (potential G.ops xs₁ x) (potential G.ops xs₂ x) (sym (off_v x d))) (cases_eq x v)
+      at_links : v < length ks₁
+      at_links = let a = v_in in let b = w.went.forest.links_long in omega arith
 
-        at_links : v < length ks₁
-        at_links = let a = v_in in let b = w.forest.links_long in omega arith
+      sizes : (b : ℕ) → Small G.ops b xs → Small G.ops (b + (k + 1)) xs₂
+      sizes b h x = ⊎_elim (λ e. omega (arith, ap G.ops.size (ap (potential G.ops xs₂) e ∙ at_v), G.laws.size_plus (potential G.ops xs₁ (tail_of ls t)) (step_worth G.ops N t), w.went.sizes b h (tail_of ls t), step_small G n ls w.went.forest.sound t)) (λ d. omega (arith, ap G.ops.size (off_v x d), w.went.sizes b h x)) (cases_eq x v)
 
-        low : Low G.ops xs₂ ks₂
-        low = subst₂ (Low G.ops) (sym o.1) (sym o.2) (set_low G xs₁ ks₁ v (offer G.ops n ls xs₁ s₀) s₀ at_links w.low)
+      -- then neither step along the arc offers more than there is
+      here : (s : Step) → arc s ≡ k → Le G.ops (offer G.ops n ls xs₁ s) (potential G.ops xs₂ (head_of ls s))
+      here s e = ⊎_elim
+          (λ is. subst (λ r. Le G.ops (offer G.ops n ls xs₁ r) (potential G.ops xs₂ (head_of ls r))) (sym is) (le_eq G (offer G.ops n ls xs₁ t) (potential G.ops xs₂ v) (sym at_v)))
+          (λ is. subst (λ r. Le G.ops (offer G.ops n ls xs₁ r) (potential G.ops xs₂ (head_of ls r))) (sym is) (le_trans G (offer G.ops n ls xs₁ (back t)) (potential G.ops xs₁ (head_of ls (back t))) (potential G.ops xs₂ (head_of ls (back t))) (back_offers xs₁ t o.0) (higher (head_of ls (back t)))))
+          (same_or_back s t (e ∙ sym along))
 
-        sizes : (b : ℕ) → Small G.ops b xs → Small G.ops (b + (k + 1)) xs₂
-        sizes b h x = ⊎_elim (λ e. omega (arith, ap G.ops.size (ap (potential G.ops xs₂) e ∙ at_v), G.laws.size_plus (potential G.ops xs₁ (tail_of ls s₀)) (step_worth G.ops N s₀), w.sizes b h (tail_of ls s₀), step_small G n ls w.forest.sound s₀)) (λ d. omega (arith, ap G.ops.size (off_v x d), w.sizes b h x)) (cases_eq x v)
+      done : (s : Step) → Open N (flow_of ls) s → first ≤ arc s → arc s < k + 1 → Le G.ops (offer G.ops n ls xs s) (potential G.ops xs₂ (head_of ls s))
+      done s p f h = ⊎_elim
+          (λ e. le_trans G (offer G.ops n ls xs s) (offer G.ops n ls xs₁ s) (potential G.ops xs₂ (head_of ls s)) (lifts s p) (here s e))
+          (λ d. le_trans G (offer G.ops n ls xs s) (potential G.ops xs₁ (head_of ls s)) (potential G.ops xs₂ (head_of ls s)) (w.done s p f (omega arith)) (higher (head_of ls s)))
+          (cases_eq (arc s) k)
 
-        here : (s : Step) → Open N (flow_of ls) s → code s ≡ k → Le G.ops (offer G.ops n ls xs s) (potential G.ops xs₂ (head_of ls s))
-        here s p e =
-            let is : s₀ ≡ s = one_code s₀ s (number ∙ sym e) in
-            le_trans G (offer G.ops n ls xs s) (offer G.ops n ls xs₁ s) (potential G.ops xs₂ (head_of ls s)) (lifts s p) (subst (λ t. Le G.ops (offer G.ops n ls xs₁ t) (potential G.ops xs₂ (head_of ls t))) is (le_eq G (offer G.ops n ls xs₁ s₀) (potential G.ops xs₂ v) (sym at_v)))
+      pub goes_on : Swept G.ops n ls first (k + 1) xs ks xs₂ ks₂ true
+      goes_on = record {
+        went = record { forest = o.3; sizes = sizes };
+        low = λ h. subst₂ (Low G.ops) (sym o.1) (sym o.2) (set_low G xs₁ ks₁ v (offer G.ops n ls xs₁ t) t at_links (w.low h));
+        up = λ x l. le_trans G (potential G.ops xs x) (potential G.ops xs₁ x) (potential G.ops xs₂ x) (w.up x l) (higher x);
+        done = done;
+        rose = λ e. (v, v_in, le_lt_trans G (potential G.ops xs v) (potential G.ops xs₁ v) (potential G.ops xs₂ v) (w.up v v_in) (subst (Lt G.ops (potential G.ops xs₁ v)) (sym at_v) o.0));
+        same = λ e. absurd (true≢false e);
+      }
 
-        done : (s : Step) → Open N (flow_of ls) s → code s < k + 1 → Le G.ops (offer G.ops n ls xs s) (potential G.ops xs₂ (head_of ls s))
-        done s p h = ⊎_elim (λ e. here s p e) (λ d. le_trans G (offer G.ops n ls xs s) (potential G.ops xs₁ (head_of ls s)) (potential G.ops xs₂ (head_of ls s)) (w.done s p (omega arith)) (higher (head_of ls s))) (cases_eq (code s) k)
+    pub stops : {xs₂ : List W} {ks₂ : List (Option Step)} (t x : Step) → k ≤ length ls → Raised G.ops n ls xs₁ ks₁ xs₂ ks₂ t (Break x) → Passed G.ops n ls first xs ks xs₂ ks₂ (Break x)
+    stops t x few o = (subst₂ (λ ys js. Went G.ops n ls xs ys js (length ls)) (sym o.2) (sym o.3) (record { forest = w.went.forest; sizes = λ b h v. let q = w.went.sizes b h v in omega arith }), o.1)
 
-    pub swept_relaxed : arc s₀ < length ls → (r : Bool) → Relaxed G.ops n ls xs₁ ks₁ xs₂ ks₂ s₀ (Continue r) → Swept G.ops n ls xs xs₂ ks₂ (moved || r) (k + 1)
-    swept_relaxed has false o = subst (λ b. Swept G.ops n ls xs xs₂ ks₂ b (k + 1)) (or_false moved) (kept o)
-    swept_relaxed has true o = subst (λ b. Swept G.ops n ls xs xs₂ ks₂ b (k + 1)) (or_true moved) (raised_from has o)
+  -- where a pass over all arcs raises nothing, the potentials fit
+  pub still_fits : {xs xs' : List W} {ks ks' : List (Option Step)} → Swept G.ops n ls 0 (length ls) xs ks xs' ks' false → Fits G.ops N (potential G.ops xs') (flow_of ls)
+  still_fits {xs} {xs'} w = fits_from G N (flow_of ls) (potential G.ops xs') (λ s p. subst (λ ys. Le G.ops (offer G.ops n ls ys s) (potential G.ops xs' (head_of ls s))) (sym (w.same refl)) (w.done s p (omega arith) p.0))
 
-  -- a whole sweep
-  pub swept_all : (xs xs' : List W) (ks' : List (Option Step)) (moved : Bool) (k : ℕ) → k ≡ 2 * length ls → Swept G.ops n ls xs xs' ks' moved k → Sweeps G.ops n ls xs xs' ks' (Continue moved)
-  swept_all xs xs' ks' true k all w = subst (Swept G.ops n ls xs xs' ks' true) all w
-  swept_all xs xs' ks' false k all w = (w.same refl, fits_from G N (flow_of ls) (potential G.ops xs) (λ s p. subst (λ ys. Le G.ops (offer G.ops n ls xs s) (potential G.ops ys (head_of ls s))) (w.same refl) (w.done s p (let h = arc_code s (length ls) p.0 in omega arith))))
-
-  -- after k sweeps that all raised something: the potentials are at least the greatest worths of walks of k steps,
-  -- and there are fewer sweeps than nodes
+  -- after k passes over all arcs that all raised something: the potentials are at least the greatest worths of walks of k steps,
+  -- and there are fewer passes than nodes
   pub record Sweeping (xs : List W) (ks : List (Option Step)) (k : ℕ) : Type 0 where
     pub forest : Forest G.ops n ls xs ks
     pub low : Low G.ops xs ks
     pub above : (v : ℕ) → v < n → Le G.ops (reach G N (flow_of ls) k v) (potential G.ops xs v)
     pub early : 0 < n → k < n
-    pub sizes : Small G.ops (896 * k) xs
+    pub sizes : Small G.ops (448 * k) xs
 
-  pub moved_on : (xs xs' : List W) (ks ks' : List (Option Step)) (k : ℕ) → length ls ≤ 448 → Sweeping xs ks k → Swept G.ops n ls xs xs' ks' true (2 * length ls) → Sweeping xs' ks' (k + 1)
+  pub moved_on : (xs xs' : List W) (ks ks' : List (Option Step)) (k : ℕ) → length ls ≤ 448 → Sweeping xs ks k → Swept G.ops n ls 0 (length ls) xs ks xs' ks' true → Sweeping xs' ks' (k + 1)
   moved_on xs xs' ks ks' k few r w = record {
-    forest = w.forest;
-    low = w.low;
-    above = λ v l. subst (λ j. Le G.ops (reach G N (flow_of ls) j v) (potential G.ops xs' v)) more (sweep_above G N (flow_of ls) sound k (potential G.ops xs) (potential G.ops xs') r.above w.up (λ s p. w.done s p (arc_code s (length ls) p.0)) v l);
+    forest = w.went.forest;
+    low = w.low r.low;
+    above = λ v l. subst (λ j. Le G.ops (reach G N (flow_of ls) j v) (potential G.ops xs' v)) more (sweep_above G N (flow_of ls) sound k (potential G.ops xs) (potential G.ops xs') r.above w.up (λ s p. w.done s p (omega arith) p.0) v l);
     early = λ h. ⊎_elim (λ l. l) (λ l. absurd (late l)) (cases_lt (k + 1) n);
-    sizes = λ v. let q = w.sizes (896 * k) r.sizes v in omega arith;
+    sizes = λ v. let q = w.went.sizes (448 * k) r.sizes v in omega arith;
   }
     where
       sound : Sound N
@@ -208,35 +198,66 @@ module _ {W : Type 0} (G : Kind W) (n : ℕ) (ls : List Arc) where
       late h =
           let z = w.rose refl in
           let v = z.0 in
-          le_lt_absurd G (potential G.ops xs' v) (potential G.ops xs v) (le_trans G (potential G.ops xs' v) (reach G N (flow_of ls) k v) (potential G.ops xs v) (under G n ls xs' ks' w.forest w.low k v (omega arith) z.1) (r.above v z.1)) z.2
+          le_lt_absurd G (potential G.ops xs' v) (potential G.ops xs v) (le_trans G (potential G.ops xs' v) (reach G N (flow_of ls) k v) (potential G.ops xs v) (under G n ls xs' ks' w.went.forest (w.low r.low) k v (omega arith) z.1) (r.above v z.1)) z.2
 
-pub same_on : {W : Type 0} {s t u : Search W} → Same s t → Same t u → Same s u
+same_on : {W : Type 0} {s t u : Search W} → Same s t → Same t u → Same s u
 same_on a b = record { net = b.net ∙ a.net; held = b.held ∙ a.held; linked = b.linked ∙ a.linked; row = b.row ∙ a.row }
 
--- the search t has come from s by relaxing the steps numbered below k
-pub record SweptTo {W : Type 0} (o : Ops W) (s t : Search W) (moved : Bool) (k : ℕ) : Type 0 where
+-- the search t has come from s over the arcs numbered from `first` on and below k
+pub record SweptTo {W : Type 0} (o : Ops W) (s t : Search W) (moved : Bool) (first k : ℕ) : Type 0 where
   pub same : Same s t
-  pub swept : Swept o s.net.nodes s.net.arcs.now s.potentials.now t.potentials.now t.links.now moved k
+  pub known : k ≤ length s.net.arcs.now
+  pub swept : Swept o s.net.nodes s.net.arcs.now first k s.potentials.now s.links.now t.potentials.now t.links.now moved
 
-module _ {W : Type 0} (G : Kind W) {s t : Search W} {moved : Bool} {k : ℕ} (w : SweptTo G.ops s t moved k) where
-  pub may_relax : Growing G.ops 999000 s → k ≤ 1000 → Growing G.ops 1000000 t
-  may_relax r h = record { forest = subst (λ n. Forest G.ops n.nodes n.arcs.now t.potentials.now t.links.now) (sym w.same.net) w.swept.forest; small = λ v. let z = w.swept.sizes 999000 r.small v in omega arith }
+module _ {W : Type 0} (G : Kind W) {s t : Search W} {moved : Bool} {first k : ℕ} (w : SweptTo G.ops s t moved first k) where
+  pub may_go : Growing G.ops 999000 s → Growing G.ops 1000000 t
+  may_go r = record { forest = subst (λ n. Forest G.ops n.nodes n.arcs.now t.potentials.now t.links.now) (sym w.same.net) w.swept.went.forest; small = λ v. let z = w.swept.went.sizes 999000 r.small v in let few = s.net.sound.few_arcs in let h = w.known in omega arith }
 
-  pub swept_on : {u : Search W} → Same t u → (step : Step) → code step ≡ k → arc step < length s.net.arcs.now → (r : Bool) → Relaxed G.ops t.net.nodes t.net.arcs.now t.potentials.now t.links.now u.potentials.now u.links.now step (Continue r) → {k' : ℕ} → k' ≡ k + 1 → SweptTo G.ops s u (moved || r) k'
-  swept_on {u} same step number known r o next =
-      let relaxed = subst (λ n. Relaxed G.ops n.nodes n.arcs.now t.potentials.now t.links.now u.potentials.now u.links.now step (Continue r)) w.same.net o in
-      record { same = same_on w.same same; swept = subst (Swept G.ops s.net.nodes s.net.arcs.now s.potentials.now u.potentials.now u.links.now (moved || r)) (sym next) (swept_relaxed G s.net.nodes s.net.arcs.now s.potentials.now t.potentials.now u.potentials.now t.links.now u.links.now moved k step number w.swept known r relaxed) }
+  pub arc_waits : k < length s.net.arcs.now → RisesAlong G.ops t k None → {k' : ℕ} → k' ≡ k + 1 → SweptTo G.ops s t moved first k'
+  arc_waits l none next = record {
+    same = w.same;
+    known = omega arith;
+    swept = subst (λ j. Swept G.ops s.net.nodes s.net.arcs.now first j s.potentials.now s.links.now t.potentials.now t.links.now moved) (sym next) (waits G s.net.nodes s.net.arcs.now w.swept settled);
+  }
+    where
+      settled : (r : Step) → arc r ≡ k → 0 < residual_of s.net.arcs.now r → Le G.ops (offer G.ops s.net.nodes s.net.arcs.now t.potentials.now r) (potential G.ops t.potentials.now (head_of s.net.arcs.now r))
+      settled = subst (λ n. (r : Step) → arc r ≡ k → 0 < residual_of n.arcs.now r → Le G.ops (offer G.ops n.nodes n.arcs.now t.potentials.now r) (potential G.ops t.potentials.now (head_of n.arcs.now r))) w.same.net both
+        where
+          both : (r : Step) → arc r ≡ k → 0 < residual_of t.net.arcs.now r → Le G.ops (offer G.ops t.net.nodes t.net.arcs.now t.potentials.now r) (potential G.ops t.potentials.now (head_of t.net.arcs.now r))
+          both (Forward i) e = subst (λ j. Offered G.ops t.net.nodes t.net.arcs.now t.potentials.now (Forward j) None) (sym e) none.0
+          both (Backward i) e = subst (λ j. Offered G.ops t.net.nodes t.net.arcs.now t.potentials.now (Backward j) None) (sym e) none.1
 
-  pub sweep_done : k ≡ 2 * length s.net.arcs.now → Sweeps G.ops s.net.nodes s.net.arcs.now s.potentials.now t.potentials.now t.links.now (Continue moved)
-  sweep_done all = swept_all G s.net.nodes s.net.arcs.now s.potentials.now t.potentials.now t.links.now moved k all w.swept
+  module _ {u : Search W} (same : Same t u) (step : Step) where
+    pub arc_goes : arc step ≡ k → k < length s.net.arcs.now → Raised G.ops t.net.nodes t.net.arcs.now t.potentials.now t.links.now u.potentials.now u.links.now step (Continue tt) → {k' : ℕ} → k' ≡ k + 1 → SweptTo G.ops s u true first k'
+    arc_goes along l o next = record {
+      same = same_on w.same same;
+      known = omega arith;
+      swept = subst (λ j. Swept G.ops s.net.nodes s.net.arcs.now first j s.potentials.now s.links.now u.potentials.now u.links.now true) (sym next) (goes_on G s.net.nodes s.net.arcs.now w.swept step along l (subst (λ n. Raised G.ops n.nodes n.arcs.now t.potentials.now t.links.now u.potentials.now u.links.now step (Continue tt)) w.same.net o));
+    }
 
--- the search t has come from s by k sweeps that all raised something
+    pub arc_closes : (x : Step) → Raised G.ops t.net.nodes t.net.arcs.now t.potentials.now t.links.now u.potentials.now u.links.now step (Break x) → Passed G.ops s.net.nodes s.net.arcs.now first s.potentials.now s.links.now u.potentials.now u.links.now (Break x)
+    arc_closes x o = stops G s.net.nodes s.net.arcs.now w.swept step x w.known (subst (λ n. Raised G.ops n.nodes n.arcs.now t.potentials.now t.links.now u.potentials.now u.links.now step (Break x)) w.same.net o)
+
+  pub pass_done : length s.net.arcs.now ≤ k → Passed G.ops s.net.nodes s.net.arcs.now first s.potentials.now s.links.now t.potentials.now t.links.now (Continue moved)
+  pass_done all = subst (λ j. Swept G.ops s.net.nodes s.net.arcs.now first j s.potentials.now s.links.now t.potentials.now t.links.now moved) (let h = w.known in omega arith) w.swept
+
+-- the search t has come from s by k passes over all arcs that all raised something
 pub record SearchedTo {W : Type 0} (G : Kind W) (s t : Search W) (k : ℕ) : Type 0 where
   pub same : Same s t
   pub sweeping : Sweeping G s.net.nodes s.net.arcs.now t.potentials.now t.links.now k
 
-pub searched_on : {W : Type 0} (G : Kind W) {s t : Search W} {k : ℕ} → SearchedTo G s t k → {u : Search W} → Same t u → {r : Bool} → r ≡ true → Sweeps G.ops t.net.nodes t.net.arcs.now t.potentials.now u.potentials.now u.links.now (Continue r) → SearchedTo G s u (k + 1)
-searched_on G {s} {t} {k} w {u} same raised sweeps = record {
-  same = same_on w.same same;
-  sweeping = moved_on G s.net.nodes s.net.arcs.now t.potentials.now u.potentials.now t.links.now u.links.now k s.net.sound.few_arcs w.sweeping (subst₂ (λ n b. Sweeps G.ops n.nodes n.arcs.now t.potentials.now u.potentials.now u.links.now (Continue b)) w.same.net raised sweeps);
-}
+module _ {W : Type 0} (G : Kind W) {s t : Search W} {k : ℕ} (w : SearchedTo G s t k) {u : Search W} (same : Same t u) {r : Bool} where
+  passed_there : Passed G.ops t.net.nodes t.net.arcs.now 0 t.potentials.now t.links.now u.potentials.now u.links.now (Continue r) → Swept G.ops s.net.nodes s.net.arcs.now 0 (length s.net.arcs.now) t.potentials.now t.links.now u.potentials.now u.links.now r
+  passed_there p = subst (λ n. Passed G.ops n.nodes n.arcs.now 0 t.potentials.now t.links.now u.potentials.now u.links.now (Continue r)) w.same.net p
+
+  pub searched_on : r ≡ true → Passed G.ops t.net.nodes t.net.arcs.now 0 t.potentials.now t.links.now u.potentials.now u.links.now (Continue r) → SearchedTo G s u (k + 1)
+  searched_on rose p = record {
+    same = same_on w.same same;
+    sweeping = moved_on G s.net.nodes s.net.arcs.now t.potentials.now u.potentials.now t.links.now u.links.now k s.net.sound.few_arcs w.sweeping (subst (Swept G.ops s.net.nodes s.net.arcs.now 0 (length s.net.arcs.now) t.potentials.now t.links.now u.potentials.now u.links.now) rose (passed_there p));
+  }
+
+  pub search_ends : r ≡ false → k < s.net.nodes → Passed G.ops t.net.nodes t.net.arcs.now 0 t.potentials.now t.links.now u.potentials.now u.links.now (Continue r) → Finds G.ops u None
+  search_ends still l p = subst (λ n. Found G.ops n.nodes n.arcs.now u.potentials.now u.links.now None) (sym (same_on w.same same).net) (still_fits G s.net.nodes s.net.arcs.now z, λ v. let few = s.net.sound.few_arcs in let nodes = s.net.sound.few_nodes in let q = z.went.sizes (448 * k) w.sweeping.sizes v in omega arith)
+    where
+      z : Swept G.ops s.net.nodes s.net.arcs.now 0 (length s.net.arcs.now) t.potentials.now t.links.now u.potentials.now u.links.now false
+      z = subst (Swept G.ops s.net.nodes s.net.arcs.now 0 (length s.net.arcs.now) t.potentials.now t.links.now u.potentials.now u.links.now) still (passed_there p)

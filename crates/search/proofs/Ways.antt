@@ -1,5 +1,5 @@
 -- Ways up along the links.
-use Rattle.std.proofs.Common.{get_or, set, ◌≡◌, ℕ, ◌+◌, ◌<◌, ◌≤◌, ◌⊎◌, inl, inr, true, false, ◌↔◌, List, [], ◌∷◌, length, Some, None, Option, sym, refl, ap, ◌∙◌, subst, subst₂, ap₂, ⊎_elim, arith}
+use Rattle.std.proofs.Common.{get_or, set, ◌≡◌, ℕ, zero, suc, ◌+◌, ◌-◌, ◌<◌, ◌≤◌, ◌⊎◌, inl, inr, true, false, ◌↔◌, List, [], ◌∷◌, length, Some, None, Option, sym, refl, ap, ◌∙◌, subst, subst₂, ap₂, ⊎_elim, arith}
 use Rattle.std.proofs.lemmas.List.{get_or_past, length-set, get_or-set_same, get_or-set_other}
 use Rattle.std.proofs.lemmas.Bool.{true≢false, cases_eq}
 use Rattle.flow.specs.declared.arc.Arc.{Arc}
@@ -30,40 +30,64 @@ module _ (ls : List Arc) (ks : List (Option Step)) where
   pub met : (v goal : ℕ) → v ≡ goal → (q : List Step) → (true ≡ false) ↔ Fresh goal (line ls v q)
   met v goal e q = (λ f. absurd (true≢false f), λ f. absurd (not_fresh v q (subst (λ x. Fresh x (line ls v q)) (sym e) f)))
 
-  -- on the way up from a node to where there are k steps less to come: what stands there still decides, or the root is passed
-  abbrev pub Climbing : ℕ → ℕ → ℕ → ℕ → Type 0
-  Climbing goal from v k =
-      ((q : List Step) × Up ls ks v q × (length q + k < length ks) × ((p : List Step) → Up ls ks from p → Fresh goal (line ls v q) ↔ Fresh goal (line ls from p)))
+  -- how many steps are to come from node v up, k of them at most
+  abbrev steps_up : Option Step → (ℕ → ℕ) → ℕ
+  steps_up None f = 0
+  steps_up (Some s) f = suc (f (tail_of ls s))
+
+  abbrev height : ℕ → ℕ → ℕ
+  height zero v = 0
+  height (suc k) v = steps_up (link ks v) (height k)
+
+  height_is : (k v : ℕ) (q : List Step) → Up ls ks v q → length q ≤ k → height k v ≡ length q
+  height_is zero v [] w h = refl
+  height_is zero v (s ∷ q) w h = absurd (omega arith)
+  height_is (suc k) v [] w h = rw w refl
+  height_is (suc k) v (s ∷ q) w h = rw w.0 (ap suc (height_is k (tail_of ls s) q w.1 (omega arith)))
+
+  -- what is left of a way up: the steps from node v on, and one more to where no node is
+  abbrev pub left : ℕ → ℕ
+  left v = (1 - (suc v - length ks)) + height (length ks) v
+
+  -- on the way up from a node to v: what stands there still decides, or the root is passed
+  abbrev pub Climbing : ℕ → ℕ → ℕ → Type 0
+  Climbing goal from v =
+      ((q : List Step) × Up ls ks v q × (length q < length ks) × ((p : List Step) → Up ls ks from p → Fresh goal (line ls v q) ↔ Fresh goal (line ls from p)))
       ⊎ ((length ks ≤ v) × ((p : List Step) → Up ls ks from p → Fresh goal (line ls from p)))
 
-  pub climb_first : (goal from : ℕ) → Rooted ls ks from → Climbing goal from from 0
-  climb_first goal from r = inl (r.0, r.1, (let h = r.2 in omega arith), λ p u. subst (λ q. Fresh goal (line ls from r.0) ↔ Fresh goal (line ls from q)) (one_way from r.0 p r.1 u) (λ f. f, λ f. f))
+  pub climb_first : (goal from : ℕ) → Rooted ls ks from → Climbing goal from from
+  climb_first goal from r = inl (r.0, r.1, r.2, λ p u. subst (λ q. Fresh goal (line ls from r.0) ↔ Fresh goal (line ls from q)) (one_way from r.0 p r.1 u) (λ f. f, λ f. f))
 
-  pub climb_met : {goal from v : ℕ} (k : ℕ) → Climbing goal from v k → v ≡ goal → goal < length ks → Told ls ks from goal true
-  climb_met {goal} {from} {v} k (inl c) e l p u = (λ f. absurd (true≢false f), λ f. (met v goal e c.0).1 ((c.3 p u).1 f))
-  climb_met k (inr c) e l p u = absurd (let h = c.0 in omega arith)
+  pub climb_met : {goal from v : ℕ} → Climbing goal from v → v ≡ goal → goal < length ks → Told ls ks from goal true
+  climb_met {goal} {from} {v} (inl c) e l p u = (λ f. absurd (true≢false f), λ f. (met v goal e c.0).1 ((c.3 p u).1 f))
+  climb_met (inr c) e l p u = absurd (let h = c.0 in omega arith)
 
-  pub climb_end : {goal from v : ℕ} (k : ℕ) → Climbing goal from v k → (v ≡ goal → ⊥) → length ks ≤ v → Told ls ks from goal false
-  climb_end {goal} {from} {v} k (inl c) d h p u = (λ f. (c.3 p u).0 (last c.0 c.1), λ f. refl)
+  pub climb_end : {goal from v : ℕ} → Climbing goal from v → (v ≡ goal → ⊥) → length ks ≤ v → Told ls ks from goal false
+  climb_end {goal} {from} {v} (inl c) d h p u = (λ f. (c.3 p u).0 (last c.0 c.1), λ f. refl)
     where
       last : (q : List Step) → Up ls ks v q → Fresh goal (line ls v q)
       last [] w = ((λ e. d (sym e)), tt)
       last (s ∷ q) w = absurd (none_some (link ks v) s (get_or_past ks v None h) w.0)
-  climb_end k (inr c) d h p u = (λ f. c.1 p u, λ f. refl)
+  climb_end (inr c) d h p u = (λ f. c.1 p u, λ f. refl)
 
-  pub climb_done : {goal from v k : ℕ} → Climbing goal from v k → length ks ≤ k → Told ls ks from goal false
-  climb_done (inl c) h p u = absurd (let l = c.2 in omega arith)
-  climb_done (inr c) h p u = (λ f. c.1 p u, λ f. refl)
+  module _ {us : List ℕ} (pair : Paired ls ks us) {goal from v : ℕ} (l : v < length ks) {x : ℕ} (is : x ≡ get_or us v 0) where
+    pub climb_on : Climbing goal from v → (v ≡ goal → ⊥) → Climbing goal from x
+    climb_on (inl c) d = go c.0 c.1 c.2 c.3 (pair.each v l)
+      where
+        go : (q : List Step) → Up ls ks v q → length q < length ks → ((p : List Step) → Up ls ks from p → Fresh goal (line ls v q) ↔ Fresh goal (line ls from p)) → Stands ls (length ks) (link ks v) (get_or us v 0) → Climbing goal from x
+        go [] w h f stands = inr (let z = stands.off w in omega arith, λ p u. (f p u).0 ((λ e. d (sym e)), tt))
+        go (s ∷ q) w h f stands =
+            let z = is ∙ stands.on s w.0 in
+            inl (q, subst (λ y. Up ls ks y q) (sym z) w.1, omega arith, λ p u. (λ a. (f p u).0 ((λ e. d (sym e)), subst (λ y. Fresh goal (line ls y q)) z a), λ b. subst (λ y. Fresh goal (line ls y q)) (sym z) ((f p u).1 b).1))
+    climb_on (inr c) d = absurd (let h = c.0 in omega arith)
 
-  pub climb_on : {us : List ℕ} → Paired ls ks us → {goal from v : ℕ} (k : ℕ) → Climbing goal from v k → (v ≡ goal → ⊥) → v < length ks → {x : ℕ} → x ≡ get_or us v 0 → {k' : ℕ} → k' ≡ k + 1 → Climbing goal from x k'
-  climb_on {us} pair {goal} {from} {v} k (inl c) d l {x} is {k'} next = go c.0 c.1 c.2 c.3 (pair.each v l)
-    where
-      go : (q : List Step) → Up ls ks v q → length q + k < length ks → ((p : List Step) → Up ls ks from p → Fresh goal (line ls v q) ↔ Fresh goal (line ls from p)) → Stands ls (length ks) (link ks v) (get_or us v 0) → Climbing goal from x k'
-      go [] w h f stands = inr (let z = stands.off w in omega arith, λ p u. (f p u).0 ((λ e. d (sym e)), tt))
-      go (s ∷ q) w h f stands =
-          let z = is ∙ stands.on s w.0 in
-          inl (q, subst (λ y. Up ls ks y q) (sym z) w.1, omega arith, λ p u. (λ a. (f p u).0 ((λ e. d (sym e)), subst (λ y. Fresh goal (line ls y q)) z a), λ b. subst (λ y. Fresh goal (line ls y q)) (sym z) ((f p u).1 b).1))
-  climb_on pair k (inr c) d l is next = absurd (let h = c.0 in omega arith)
+    pub less_left : Climbing goal from v → left x < left v
+    less_left (inl c) = go c.0 c.1 c.2 (pair.each v l)
+      where
+        go : (q : List Step) → Up ls ks v q → length q < length ks → Stands ls (length ks) (link ks v) (get_or us v 0) → left x < left v
+        go [] w h stands = let past = stands.off w in omega (arith, height_is (length ks) v [] w (omega arith), height_is (length ks) x [] (get_or_past ks x None (omega arith)) (omega arith))
+        go (s ∷ q) w h stands = omega (arith, height_is (length ks) v (s ∷ q) w (omega arith), height_is (length ks) x q (subst (λ y. Up ls ks y q) (sym (is ∙ stands.on s w.0)) w.1) (omega arith))
+    less_left (inr c) = absurd (let h = c.0 in omega arith)
 
 -- a link set, with its entry in the row
 pub paired_set : (ls : List Arc) (ks : List (Option Step)) (us : List ℕ) (v : ℕ) (s : Step) (u : ℕ) → Paired ls ks us → u ≡ tail_of ls s → Paired ls (set ks v (Some s)) (set us v u)

@@ -5,13 +5,14 @@ use Rattle.worth.specs.Kinds.{Ops}
 use Rattle.network.specs.Networks.{Net}
 use Rattle.network.specs.Potentials.{potential}
 use Rattle.flow.specs.declared.step.Step.{Step}
+use Rattle.flow.specs.declared.step.Step.TheVariants.{Forward, Backward}
 use Rattle.flow.specs.Steps.{arc}
 use Rattle.search.specs.declared.residual.Residual.{Residual}
 use Rattle.search.specs.declared.cycle.Cycle.{Cycle}
 use Rattle.search.specs.declared.cycle.Measure.{Measure}
 use Rattle.search.specs.declared.sweep.Search.{Search}
 use Rattle.search.specs.Links.{Unlinked, head_of, climb}
-use Rattle.search.specs.Sweeps.{Small, Forest, Low, Closing, Offered, Relaxed, Sweeps, Found}
+use Rattle.search.specs.Sweeps.{Small, Forest, Closing, Offered, Raised, Found}
 use Rattle.search.specs.Passes.{Passed}
 use Rattle.search.specs.Cycles.{Measured}
 
@@ -43,30 +44,22 @@ module _ {W : Type 0} (o : Ops W) where
     pub forest : Forest o s.net.nodes s.net.arcs.now s.potentials.now s.links.now
     pub small : Small o b s.potentials.now
 
-  -- the potentials of nodes without a link are at most none
-  abbrev pub Grounded : Search W → Type 0
-  Grounded s = Low o s.potentials.now s.links.now
-
   -- what step t offers in s
   abbrev pub Offers : Search W → Step → Option W → Type 0
   Offers s t r = Offered o s.net.nodes s.net.arcs.now s.potentials.now t r
 
-  -- r is a step along arc i that offers more than there is, with what it offers
+  -- r is a step along arc i that offers more than there is, with what it offers; or neither step along it does
   abbrev pub RisesAlong : Search W → ℕ → Option (Step × W) → Type 0
-  RisesAlong s i None = Unit {0}
+  RisesAlong s i None = Offers s (Forward i) None × Offers s (Backward i) None
   RisesAlong s i (Some z) = (arc z.0 ≡ i) × Offers s z.0 (Some z.1)
 
-  -- relaxing step t takes s to s'
-  abbrev pub Relaxes : Search W → Search W → Step → ControlFlow Step Bool → Type 0
-  Relaxes s s' t r = Relaxed o s.net.nodes s.net.arcs.now s.potentials.now s.links.now s'.potentials.now s'.links.now t r
+  -- raising the head of step t takes s to s'
+  abbrev pub Raises : Search W → Search W → Step → ControlFlow Step Unit → Type 0
+  Raises s s' t r = Raised o s.net.nodes s.net.arcs.now s.potentials.now s.links.now s'.potentials.now s'.links.now t r
 
-  -- a sweep takes s to s'
-  abbrev pub SweepsTo : Search W → Search W → ControlFlow Step Bool → Type 0
-  SweepsTo s s' r = Sweeps o s.net.nodes s.net.arcs.now s.potentials.now s'.potentials.now s'.links.now r
-
-  -- a pass takes s to s'
-  abbrev pub PassesTo : Search W → Search W → ControlFlow Step Bool → Type 0
-  PassesTo s s' r = Passed o s.net.nodes s.net.arcs.now s.potentials.now s'.potentials.now s'.links.now r
+  -- a pass from arc number `first` on takes s to s'
+  abbrev pub PassesTo : ℕ → Search W → Search W → ControlFlow Step Bool → Type 0
+  PassesTo first s s' r = Passed o s.net.nodes s.net.arcs.now first s.potentials.now s.links.now s'.potentials.now s'.links.now r
 
   -- the search ends at s
   abbrev pub Finds : Search W → Option Step → Type 0

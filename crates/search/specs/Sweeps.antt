@@ -1,6 +1,6 @@
 -- The search in place: potentials that only rise, and the forest of links by which they rose.
 -- These words serve the contracts of the search's inner functions only.
-use Rattle.std.specs.Prelude.{◌≡◌, ℕ, ◌+◌, ◌*◌, ◌<◌, ◌≤◌, Bool, true, false, List, [], ◌∷◌, length, Some, None, Option, slice_set}
+use Rattle.std.specs.Prelude.{◌≡◌, ℕ, ◌<◌, ◌≤◌, List, [], ◌∷◌, length, Some, None, Option, slice_set}
 use Rattle.std.specs.declared.ops.ControlFlow.{ControlFlow}
 use Rattle.std.specs.declared.ops.ControlFlow.TheVariants.{Continue, Break}
 use Rattle.worth.specs.Kinds.{Ops}
@@ -10,14 +10,8 @@ use Rattle.flow.specs.Steps.{arc, Open, step_worth, Gainful}
 use Rattle.flow.specs.Arcs.{net, flow_of}
 use Rattle.flow.specs.declared.arc.Arc.{Arc}
 use Rattle.flow.specs.declared.step.Step.{Step}
-use Rattle.flow.specs.declared.step.Step.TheVariants.{Forward, Backward}
 use Rattle.network.specs.Potentials.{potential}
 use Rattle.search.specs.Links.{SoundArcs, tail_of, head_of, residual_of, link, Linked, Up, Trail, onto}
-
--- a step's number in a sweep
-abbrev pub code : Step → ℕ
-code (Forward i) = 2 * i
-code (Backward i) = 2 * i + 1
 
 -- no potential has a size above b
 abbrev pub Small : {W : Type 0} → Ops W → ℕ → List W → Type 0
@@ -60,27 +54,10 @@ module _ {W : Type 0} (G : Ops W) (n : ℕ) (ls : List Arc) where
     pub short : length trail < n
     pub gainful : Gainful G (net G n ls) (flow_of ls) (onto trail (s ∷ []))
 
-  -- what relaxing step s does to the potentials xs and the links ks: it keeps or raises them, or s itself closes a cycle
-  abbrev pub Relaxed : List W → List (Option Step) → List W → List (Option Step) → Step → ControlFlow Step Bool → Type 0
-  Relaxed xs ks xs' ks' s (Continue false) = (0 < residual_of ls s → Le G (offer xs s) (potential G xs (head_of ls s))) × (xs' ≡ xs) × (ks' ≡ ks)
-  Relaxed xs ks xs' ks' s (Continue true) = Lt G (potential G xs (head_of ls s)) (offer xs s) × (xs' ≡ slice_set xs (head_of ls s) (offer xs s)) × (ks' ≡ slice_set ks (head_of ls s) (Some s)) × Forest xs' ks'
-  Relaxed xs ks xs' ks' s (Break t) = (t ≡ s) × Closing ks' t × (xs' ≡ xs) × (ks' ≡ ks)
-
-  -- the steps numbered below k were relaxed, from the potentials xs on
-  pub record Swept (xs xs' : List W) (ks' : List (Option Step)) (moved : Bool) (k : ℕ) : Type 0 where
-    pub forest : Forest xs' ks'
-    pub low : Low G xs' ks'
-    pub up : (v : ℕ) → v < n → Le G (potential G xs v) (potential G xs' v)
-    pub done : (s : Step) → Open (net G n ls) (flow_of ls) s → code s < k → Le G (offer xs s) (potential G xs' (head_of ls s))
-    pub rose : moved ≡ true → (v : ℕ) × (v < n) × Lt G (potential G xs v) (potential G xs' v)
-    pub same : moved ≡ false → xs' ≡ xs
-    pub sizes : (b : ℕ) → Small G b xs → Small G (b + k) xs'
-
-  -- what a whole sweep does: it leaves potentials that fit, raises some, or closes a cycle
-  abbrev pub Sweeps : List W → List W → List (Option Step) → ControlFlow Step Bool → Type 0
-  Sweeps xs xs' ks' (Continue false) = (xs' ≡ xs) × Fits G (net G n ls) (potential G xs) (flow_of ls)
-  Sweeps xs xs' ks' (Continue true) = Swept xs xs' ks' true (2 * length ls)
-  Sweeps xs xs' ks' (Break s) = Closing ks' s
+  -- what raising the head of step s to what it offers does to the potentials xs and the links ks: s becomes the link there, or s closes a cycle
+  abbrev pub Raised : List W → List (Option Step) → List W → List (Option Step) → Step → ControlFlow Step Unit → Type 0
+  Raised xs ks xs' ks' s (Continue _) = Lt G (potential G xs (head_of ls s)) (offer xs s) × (xs' ≡ slice_set xs (head_of ls s) (offer xs s)) × (ks' ≡ slice_set ks (head_of ls s) (Some s)) × Forest xs' ks'
+  Raised xs ks xs' ks' s (Break t) = (t ≡ s) × Closing ks' t × (xs' ≡ xs) × (ks' ≡ ks)
 
   -- what the search finds: potentials that fit, or a step that closes a cycle
   abbrev pub Found : List W → List (Option Step) → Option Step → Type 0

@@ -1,10 +1,10 @@
-// Cycle after cycle, with the potentials and the links kept from each to the next. Most cycles of a clearing are found so, since
-// one shift leaves most potentials as they were. That nothing is left to find is for `improve` to say.
+// Cycle after cycle, with the potentials and the links kept from each to the next, since one shift leaves most of them as they were.
+// A pass over all arcs that raises nothing shows that no cycle is left.
 ghost use Rattle.std.specs.Prelude.{◌≡◌, ◌<◌, ◌≤◌, length, take, All};
-ghost use Rattle.search.specs.Outcomes.{Climb, Improves};
+ghost use Rattle.search.specs.Outcomes.{Improves};
 ghost use Rattle.search.specs.Sweeps.{Small, Forest, Closing};
 ghost use Rattle.search.specs.Links.{head_of, Paired, OpenLinks, OpenBut};
-ghost use Rattle.search.specs.Passes.{Cut, Passed};
+ghost use Rattle.search.specs.Passes.{Cut, Passed, Climbs};
 ghost use Rattle.search.specs.Searches.{net_of, Measures};
 
 use super::cycle::{Cycle, Measure, no_steps};
@@ -20,6 +20,17 @@ use network::readable::Network;
 use std::ops::ControlFlow;
 use tables::table::Table;
 use worth::kind::Worth;
+
+// At most so many, so that the sizes of potentials stay within their bound: a pass adds at most 448 to them.
+const PASSES: usize = 1000;
+
+// How quick cycles end, with the sum of their rises.
+pub(crate) enum Climbed<W> {
+    // A pass over all arcs raised nothing: the potentials fit.
+    Best(W),
+    // The passes are spent.
+    Left(W),
+}
 
 // Takes away the links that can take nothing any more. They are steps of the cycle that was shifted along.
 fn cut(net: Residual, steps: &[Step], links: &mut [Option<Step>], ups: &mut [usize])
@@ -40,23 +51,23 @@ fn cut(net: Residual, steps: &[Step], links: &mut [Option<Step>], ups: &mut [usi
     }
 }
 
-// Relaxes the steps along each arc from number `from` on: whether some potential rose, or else a step that closes a cycle
-// worth more than none.
+// Goes over the arcs from number `first` on, and raises where a step offers more: whether some potential rose, or else a step
+// that closes a cycle worth more than none.
 fn pass<W: Worth>(
     net: Residual,
     potentials: &mut [W],
     links: &mut [Option<Step>],
     ups: &mut [usize],
-    from: usize,
+    first: usize,
 ) -> ControlFlow<Step, bool>
-    requires start { from ≤ length net.arcs.now }
+    requires start { first ≤ length net.arcs.now }
     requires paired { Paired net.arcs.now links.old ups.old }
     requires forest { Forest W.ops net.nodes net.arcs.now potentials.old links.old }
     requires small { Small W.ops 999000 potentials.old }
-    ensures passed { Passed W.ops net.entry.nodes net.entry.arcs.now potentials.old potentials.new links.new result }
+    ensures passed { Passed W.ops net.entry.nodes net.entry.arcs.now first potentials.old links.old potentials.new links.new result }
     ensures paired { Paired net.entry.arcs.now links.new ups.new }
 {
-    Search::resume(net, potentials, links, ups).pass(from)
+    Search::resume(net, potentials, links, ups).pass(first)
 }
 
 // Measures the cycle that a step closes, and puts its steps into a row.
@@ -113,10 +124,10 @@ fn take<N: Improvable>(
     rise
 }
 
-// Improves by cycles found in at most 1,000 passes, and answers the sum of the rises. A table of potentials is lent to it.
-pub(crate) fn climb_quickly<N: Improvable>(net: &mut N, potentials: &mut [N::W]) -> N::W
+// Improves by quick cycles. The potentials are written into a row that is lent.
+pub(crate) fn climb_quickly<N: Improvable>(net: &mut N, potentials: &mut [N::W]) -> Climbed<N::W>
     requires { length potentials.old ≡ (N.Network.net net.old).nodes }
-    ensures climb { Climb N.W.Worth.ops (N.Network.net net.old) result (N.Network.net net.new) }
+    ensures outcome { Climbs N.W.Worth.ops (N.Network.net net.old) (N.Network.net net.new) potentials.new result }
     ensures kept { N.Improvable.alike net.old net.new }
 {
     let mut table = Table::default();
@@ -126,25 +137,25 @@ pub(crate) fn climb_quickly<N: Improvable>(net: &mut N, potentials: &mut [N::W])
     let mut steps = no_steps();
     blank(potentials);
     let mut sum = N::W::none();
-    let mut from = 0;
-    for _k in 0..1000usize {
+    let mut first = 0;
+    for _ in 0..PASSES {
         let residual = Residual {
             nodes: potentials.len(),
             arcs: table.as_slice(),
         };
-        match pass(residual, potentials, &mut links, &mut ups, from) {
+        match pass(residual, potentials, &mut links, &mut ups, first) {
             ControlFlow::Break(closing) => {
                 let rise = take(net, &mut table, &mut links, &mut ups, &mut steps, closing);
                 sum = sum.plus(rise);
-                from = arc_of(closing);
+                first = arc_of(closing);
             }
             ControlFlow::Continue(moved) => {
-                if !moved && from == 0 {
-                    return sum;
+                if !moved && first == 0 {
+                    return Climbed::Best(sum);
                 }
-                from = 0;
+                first = 0;
             }
         }
     }
-    sum
+    Climbed::Left(sum)
 }

@@ -1,5 +1,5 @@
 // The search for a cycle worth more than none: potentials are raised in place, step by step, until a step
-// closes a cycle or a whole sweep raises nothing; then the potentials fit.
+// closes a cycle or a pass over all arcs raises nothing; then the potentials fit.
 ghost use Rattle.std.specs.Prelude.{◌≡◌, ◌<◌, ◌≤◌, ℕ, [], ◌∷◌, length, Some, slice_index_or, slice_set};
 ghost use Rattle.search.specs.Links.{Unlinked, Paired, Rooted, Told};
 
@@ -24,7 +24,7 @@ pub(crate) struct Search<'a, W> {
 }
 
 impl<'a, W: Worth> Search<'a, W> {
-    ghost use Rattle.search.specs.Searches.{Same, Begun, Growing, Grounded, Offers, RisesAlong, Relaxes, SweepsTo, PassesTo, Finds, ClosedBy, Closes};
+    ghost use Rattle.search.specs.Searches.{Same, Begun, Growing, Offers, RisesAlong, Raises, PassesTo, Finds, ClosedBy, Closes};
 
     // Nothing is raised yet.
     pub(crate) fn new(
@@ -99,21 +99,6 @@ impl<'a, W: Worth> Search<'a, W> {
         }
     }
 
-    // What a step offers to its head, if it can be taken and offers more than there is.
-    fn offer(&self, step: Step) -> Option<W>
-        requires { Growing W.ops 1000000 self.now }
-        ensures { Offers W.ops self.now step result }
-    {
-        let net = self.net;
-        if net.room(step) == 0 {
-            return None;
-        }
-        let here = self.potentials[net.tail(step)];
-        let there = self.potentials[net.head(step)];
-        let offered = here.plus(net.gain::<W>(step));
-        there.is_less(offered).then_some(offered)
-    }
-
     // Whether the way from a node up along the links passes `goal`.
     fn passes(&self, from: usize, goal: usize) -> bool
         requires rooted { Rooted self.now.net.arcs.now self.now.links.now from }
@@ -121,21 +106,17 @@ impl<'a, W: Worth> Search<'a, W> {
         ensures { Told self.now.net.arcs.now self.now.links.now from goal result }
     {
         let mut node = from;
-        // a way up is shorter than the rows
-        for _k in 0..self.ups.len() {
-            if node == goal {
-                return true;
-            }
+        while node != goal {
             let Some(&up) = self.ups.get(node) else {
                 return false;
             };
             node = up;
         }
-        false
+        true
     }
 
-    // A step along arc i that can be taken and offers more to its head than there is, and what it offers, if either does.
-    // One sum tells of both.
+    // A step along arc i that can be taken and offers more to its head than there is, and what it offers; or none, and then
+    // neither does. One sum tells of both.
     fn rising(&self, i: usize) -> Option<(Step, W)>
         requires known { i < length self.now.net.arcs.now }
         requires growing { Growing W.ops 1000000 self.now }
@@ -155,13 +136,12 @@ impl<'a, W: Worth> Search<'a, W> {
         None
     }
 
-    // Raises the potential at a step's head to what the step offers: it rose,
-    // or else the step closes a cycle worth more than none.
-    fn raise(&mut self, step: Step, offered: W) -> ControlFlow<Step, bool>
+    // Raises the potential at a step's head to what the step offers, or else the step closes a cycle worth more than none.
+    fn raise(&mut self, step: Step, offered: W) -> ControlFlow<Step>
         requires growing { Growing W.ops 1000000 self.old }
         requires offers { Offers W.ops self.old step (Some offered) }
         ensures same { Same self.old self.new }
-        ensures relaxed { Relaxes W.ops self.old self.new step result }
+        ensures raised { Raises W.ops self.old self.new step result }
     {
         let from = self.net.tail(step);
         let to = self.net.head(step);
@@ -170,66 +150,37 @@ impl<'a, W: Worth> Search<'a, W> {
         }
         self.potentials[to] = offered;
         set_link(self.links, self.ups, to, step, from);
-        ControlFlow::Continue(true)
+        ControlFlow::Continue(())
     }
 
-    // Raises the potential at a step's head to what the step offers, if that is more: whether it rose,
-    // or else the step, where it closes a cycle worth more than none.
-    fn relax(&mut self, step: Step) -> ControlFlow<Step, bool>
-        requires { Growing W.ops 1000000 self.old }
-        ensures same { Same self.old self.new }
-        ensures relaxed { Relaxes W.ops self.old self.new step result }
-    {
-        match self.offer(step) {
-            None => ControlFlow::Continue(false),
-            Some(offered) => self.raise(step, offered),
-        }
-    }
-
-    // Relaxes each step once, forward and backward along each arc in turn: whether some potential rose,
-    // or else a step that closes a cycle worth more than none.
-    fn sweep(&mut self) -> ControlFlow<Step, bool>
+    // Goes over the arcs from number `first` on, and raises where a step offers more: whether some potential rose, or else
+    // a step that closes a cycle worth more than none. Along one arc one raise is enough: the other step then offers no more.
+    pub(crate) fn pass(&mut self, first: usize) -> ControlFlow<Step, bool>
+        requires start { first ≤ length self.old.net.arcs.now }
         requires growing { Growing W.ops 999000 self.old }
-        requires grounded { Grounded W.ops self.old }
         ensures same { Same self.old self.new }
-        ensures sweeps { SweepsTo W.ops self.old self.new result }
+        ensures passed { PassesTo W.ops first self.old self.new result }
     {
         let mut moved = false;
         // a step names its arc by number
-        for i in 0..self.net.arcs.len() {
-            for step in both_ways(i) {
-                moved |= self.relax(step)?;
-            }
-        }
-        ControlFlow::Continue(moved)
-    }
-
-    // Relaxes a step along each arc from number `from` on: whether some potential rose, or else a step that closes a cycle
-    // worth more than none.
-    pub(crate) fn pass(&mut self, from: usize) -> ControlFlow<Step, bool>
-        requires start { from ≤ length self.old.net.arcs.now }
-        requires growing { Growing W.ops 999000 self.old }
-        ensures same { Same self.old self.new }
-        ensures passed { PassesTo W.ops self.old self.new result }
-    {
-        let mut moved = false;
-        for i in from..self.net.arcs.len() {
+        for i in first..self.net.arcs.len() {
             if let Some((step, offered)) = self.rising(i) {
-                moved |= self.raise(step, offered)?;
+                self.raise(step, offered)?;
+                moved = true;
             }
         }
         ControlFlow::Continue(moved)
     }
 
     // The step that closes a cycle worth more than none, or none: then the potentials fit.
-    // As many sweeps as there are nodes suffice, since a way up the links visits no node twice.
+    // As many passes over all arcs as there are nodes suffice, since a way up the links visits no node twice.
     pub(crate) fn find_cycle(&mut self) -> Option<Step>
         requires { Begun W.ops self.old }
         ensures same { Same self.old self.new }
         ensures found { Finds W.ops self.new result }
     {
-        for _k in 0..self.net.nodes {
-            match self.sweep() {
+        for _ in 0..self.net.nodes {
+            match self.pass(0) {
                 ControlFlow::Continue(false) => return None,
                 ControlFlow::Continue(true) => {}
                 ControlFlow::Break(step) => return Some(step),
@@ -248,13 +199,6 @@ fn set_link(links: &mut [Option<Step>], ups: &mut [usize], node: usize, step: St
 {
     links[node] = Some(step);
     ups[node] = from;
-}
-
-// The two steps along an arc.
-fn both_ways(i: usize) -> [Step; 2]
-    ensures { result ≡ Step.Forward i ∷ Step.Backward i ∷ [] }
-{
-    [Step::Forward(i), Step::Backward(i)]
 }
 
 // All entries none.

@@ -2,7 +2,7 @@ use Rattle.std.proofs.Common.{◌∙◌, arith}
 use Rattle.std.proofs.lemmas.List.{length-take-le}
 use Rattle.search.proofs.Working.{beyond}
 use Rattle.search.proofs.Standing.{law_holds}
-use Rattle.search.proofs.Clearing.{not_short, ended, goes_on, can_add, fewer_left}
+use Rattle.search.proofs.Clearing.{best_at_once, not_short, ended, goes_on, can_add, fewer_left}
 use Rattle.search.proofs.clear.clear.Goals as goal
 
 pub returns-then-work-n-clause-law : goal.returns-then-work-n-clause-law
@@ -11,10 +11,10 @@ returns-then-work-n-clause-law g c = law_holds g.met.N.W.Worth.lawful
 pub loop-rise-init : goal.loop-rise-init
 loop-rise-init g c = (
   record {
-    climb = c.climb_quickly-sum.ensures.climb;
-    beyond = beyond g.N.W.Worth.ops (g.N.Network.net c.args.net.now) (g.met.N.Network.sound c.args.net.now) c.args.work.now c.climb_quickly-sum.new.potentials c.counts-nodes.result.0 c.counts-nodes.ensures.0 (let e = c.counts-nodes.ensures.0 in let z = c.if-work-n.false in omega arith) (c.climb_quickly-sum.auto.potentials ∙ length-take-le c.counts-nodes.result.0 c.args.work.now c.if-work-n.false);
+    climb = c.in-Left.ensures.outcome;
+    beyond = beyond g.N.W.Worth.ops (g.N.Network.net c.args.net.now) (g.met.N.Network.sound c.args.net.now) c.args.work.now c.climb_quickly.new.potentials c.counts-nodes.result.0 c.counts-nodes.ensures.0 (let e = c.counts-nodes.ensures.0 in let z = c.if-work-n.false in omega arith) (c.climb_quickly.auto.potentials ∙ length-take-le c.counts-nodes.result.0 c.args.work.now c.if-work-n.false);
   },
-  c.climb_quickly-sum.ensures.kept,
+  c.climb_quickly.ensures.kept,
 )
 
 pub returns-in_err-rise-clause-outcome : goal.returns-in_err-rise-clause-outcome
@@ -34,3 +34,9 @@ loop-rise-preserved g c = (
 
 pub returns-clause-outcome : goal.returns-clause-outcome
 returns-clause-outcome g c = ended g.met.N.W.Worth.lawful c.loop-rise.invariant.0 (g.N.Network.net c.improve.new.net) c.improve.new.work c.in_ok-rise.field-0 c.in_default.is c.in_ok-rise.ensures.outcome
+
+pub returns-in-Best-clause-outcome : goal.returns-in-Best-clause-outcome
+returns-in-Best-clause-outcome g c = best_at_once g.met.N.W.Worth.lawful (g.N.Network.net c.args.net.now) (g.N.Network.net c.climb_quickly.new.net) (g.met.N.Network.sound c.args.net.now) (g.met.N.Network.sound c.climb_quickly.new.net) c.args.work.now c.climb_quickly.new.potentials c.counts-nodes.result.0 c.counts-nodes.ensures.0 c.if-work-n.false (c.climb_quickly.auto.potentials ∙ length-take-le c.counts-nodes.result.0 c.args.work.now c.if-work-n.false) c.in-Best.ensures.outcome
+
+pub returns-in-Best-clause-law : goal.returns-in-Best-clause-law
+returns-in-Best-clause-law g c = law_holds g.met.N.W.Worth.lawful

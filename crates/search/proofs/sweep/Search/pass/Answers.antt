@@ -1,29 +1,23 @@
 use Rattle.std.proofs.Common.{refl, arith}
 use Rattle.flow.specs.Groups.{kind}
-use Rattle.search.proofs.Quickly.{may_go, goes_on, goes_to, waits, gone}
+use Rattle.search.proofs.Raising.{may_go, arc_waits, arc_goes, arc_closes, pass_done}
 use Rattle.search.proofs.sweep.Search.pass.Goals as goal
-use Rattle.search.proofs.sweep.Search.pass.Goals.{in-Some+in_ok-moved, in_default}
+use Rattle.search.proofs.sweep.Search.pass.Goals.{in-Some+in_ok-raise, in_default}
 
 pub rising-requires-clause-growing : goal.rising-requires-clause-growing
-rising-requires-clause-growing g c = may_go (kind g.W.Worth.ops g.met.W.Worth.lawful) c.loop-i.invariant.0 c.requires.growing.small (let few = c.args.self.now.net.sound.few_arcs in let h = c.loop-i.invariant.1 in omega arith)
+rising-requires-clause-growing g c = may_go (kind g.W.Worth.ops g.met.W.Worth.lawful) c.loop-i.invariant c.requires.growing
 
 pub raise-requires-clause-growing : goal.raise-requires-clause-growing
-raise-requires-clause-growing g c = may_go (kind g.W.Worth.ops g.met.W.Worth.lawful) c.loop-i.invariant.0 c.requires.growing.small (let few = c.args.self.now.net.sound.few_arcs in let h = c.loop-i.invariant.1 in omega arith)
+raise-requires-clause-growing g c = may_go (kind g.W.Worth.ops g.met.W.Worth.lawful) c.loop-i.invariant c.requires.growing
 
-pub returns-in_err-moved-clause-passed : goal.returns-in_err-moved-clause-passed
-returns-in_err-moved-clause-passed g c =
-    let few = c.args.self.now.net.sound.few_arcs in
-    let h = c.loop-i.invariant.1 in
-    rw c.from_residual.ensures (goes_to (kind g.W.Worth.ops g.met.W.Worth.lawful) c.loop-i.invariant.0 c.raise.ensures.same c.in-Some.step c.in_err-moved.field-0.0 (omega arith) c.in_err-moved.ensures.relaxed)
+pub returns-in_err-raise-clause-passed : goal.returns-in_err-raise-clause-passed
+returns-in_err-raise-clause-passed g c = rw c.from_residual.ensures (arc_closes (kind g.W.Worth.ops g.met.W.Worth.lawful) c.loop-i.invariant c.raise.ensures.same c.in-Some.step c.in_err-raise.field-0.0 c.in_err-raise.ensures.raised)
 
 pub loop-i-preserved : goal.loop-i-preserved
-loop-i-preserved g c =
-    let t = c.loop-i-test.true in
-    let e = c.loop-i.auto.i-end in
-    elim c.match-rising.branch [
-      | in-Some+in_ok-moved w ↦ (rw w.self-is (goes_on (kind g.W.Worth.ops g.met.W.Worth.lawful) c.loop-i.invariant.0 w.raise.ensures.same w.in-Some.step (let is = w.in-Some.ensures.0 in omega arith) w.in_ok-moved.field-0 w.in_ok-moved.ensures.relaxed refl), omega arith)
-      | in_default w ↦ (rw w.self-is (waits (kind g.W.Worth.ops g.met.W.Worth.lawful) c.loop-i.invariant.0 refl), omega arith)
-    ]
+loop-i-preserved g c = elim c.match-rising.branch [
+  | in-Some+in_ok-raise w ↦ rw (w.self-is, w.moved-is) (arc_goes (kind g.W.Worth.ops g.met.W.Worth.lawful) c.loop-i.invariant w.raise.ensures.same w.in-Some.step w.in-Some.ensures.0 c.loop-i-test.true w.in_ok-raise.ensures.raised refl)
+  | in_default w ↦ rw (w.self-is, w.moved-is) (arc_waits (kind g.W.Worth.ops g.met.W.Worth.lawful) c.loop-i.invariant c.loop-i-test.true w.in_default.ensures refl)
+]
 
 pub returns-clause-passed : goal.returns-clause-passed
-returns-clause-passed g c = gone (kind g.W.Worth.ops g.met.W.Worth.lawful) c.loop-i.invariant.0 (let few = c.args.self.now.net.sound.few_arcs in let h = c.loop-i.invariant.1 in omega arith) c.loop-i.moved
+returns-clause-passed g c = pass_done (kind g.W.Worth.ops g.met.W.Worth.lawful) c.loop-i.invariant (let t = c.loop-i-test.false in let e = c.loop-i.auto.i-end in let h = c.requires.start in omega arith)

@@ -6,11 +6,11 @@ use Rattle.search.proofs.sweep.Search.raise.Goals as goal
 pub passes-requires-clause-rooted : goal.passes-requires-clause-rooted
 passes-requires-clause-rooted g c = rw c.tail-from.ensures (rooted (kind g.W.Worth.ops g.met.W.Worth.lawful) c.requires.growing c.args.step c.requires.offers.0)
 
-pub returns-then-passes-clause-relaxed : goal.returns-then-passes-clause-relaxed
-returns-then-passes-clause-relaxed g c = (refl, closed (kind g.W.Worth.ops g.met.W.Worth.lawful) c.requires.growing c.args.step c.requires.offers c.tail-from.ensures c.head-to.ensures c.passes.ensures c.if-passes.true, refl, refl)
+pub returns-then-passes-clause-raised : goal.returns-then-passes-clause-raised
+returns-then-passes-clause-raised g c = (refl, closed (kind g.W.Worth.ops g.met.W.Worth.lawful) c.requires.growing c.args.step c.requires.offers c.tail-from.ensures c.head-to.ensures c.passes.ensures c.if-passes.true, refl, refl)
 
-pub returns-clause-relaxed : goal.returns-clause-relaxed
-returns-clause-relaxed g c = rw c.set_link.ensures.links (raised (kind g.W.Worth.ops g.met.W.Worth.lawful) c.requires.growing c.args.step c.requires.offers c.tail-from.ensures c.head-to.ensures c.passes.ensures c.if-passes.false)
+pub returns-clause-raised : goal.returns-clause-raised
+returns-clause-raised g c = rw c.set_link.ensures.links (raised (kind g.W.Worth.ops g.met.W.Worth.lawful) c.requires.growing c.args.step c.requires.offers c.tail-from.ensures c.head-to.ensures c.passes.ensures c.if-passes.false)
 
 pub bounds-self-to : goal.bounds-self-to
 bounds-self-to g c = omega (arith, to_node (kind g.W.Worth.ops g.met.W.Worth.lawful) c.requires.growing c.args.step c.requires.offers.0, c.head-to.ensures, c.requires.growing.forest.potentials_long)

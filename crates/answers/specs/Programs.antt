@@ -20,7 +20,7 @@ Prints program before after text = (bytes : List ℕ) × program text bytes × A
 abbrev pub CheckPrints : List ℕ → List ℕ → Type 0
 CheckPrints text bytes = (r : Result Passed Fault) × Checks text r × (bytes ≡ printed (lines_of r))
 
--- the text is a sheet, and the bytes are a record of its round and kind that passes
+-- the text is a sheet, and the bytes are the record of an allotment and levels that clear comes to from no units, by its kind; it passes
 pub record ClearedSheet (text bytes : List ℕ) : Type 0 where
   pub sheet : Contents
   pub reads : Reads text sheet

@@ -1,4 +1,5 @@
 ghost use Rattle.std.specs.Prelude.{OnOk, IfSome};
+ghost use Rattle.record.specs.Evidence.{Evidence};
 ghost use Rattle.answers.specs.Programs.{Prints, CheckPrints, ClearPrints};
 
 use super::answer::Answer;
@@ -17,7 +18,8 @@ pub fn run_check<R: Read + Drop, W: Write>(
     output: &mut W,
     alloc: Global,
 ) -> io::Result<()>
-    ensures { OnOk result (IfSome (R.Read.remaining input) (Prints CheckPrints (W.Write.contents output.old) (W.Write.contents output.new))) }
+    ensures outcome { OnOk result (IfSome (R.Read.remaining input) (Prints CheckPrints (W.Write.contents output.old) (W.Write.contents output.new))) }
+    ensures law { Evidence }
 {
     let text = read_text(input, alloc)?;
     write!(output, "{}", Answer(check(&text)))
@@ -29,7 +31,8 @@ pub fn run_clear<R: Read + Drop, W: Write>(
     output: &mut W,
     alloc: Global,
 ) -> io::Result<()>
-    ensures { OnOk result (IfSome (R.Read.remaining input) (Prints ClearPrints (W.Write.contents output.old) (W.Write.contents output.new))) }
+    ensures outcome { OnOk result (IfSome (R.Read.remaining input) (Prints ClearPrints (W.Write.contents output.old) (W.Write.contents output.new))) }
+    ensures law { Evidence }
 {
     let text = read_text(input, alloc)?;
     // no record is longer

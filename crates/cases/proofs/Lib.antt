@@ -9,6 +9,7 @@ pub mod Cycles
 pub mod Rounds
 pub mod Records
 pub mod Cuts
+pub mod Sheets
 pub mod Cleared
 pub mod Left
 pub mod Paid

@@ -28,7 +28,7 @@ use Rattle.record.specs.Evidence.{LevelsFit, network_of, Passes}
 use Rattle.record.specs.declared.passed.Passed.{Passed}
 use Rattle.record.specs.declared.passed.OfferResult.{OfferResult}
 use Rattle.record.specs.declared.passed.Total.{Total}
-use Rattle.cases.specs.Texts.{RecordOf, Passing, PassingAt, Failing}
+use Rattle.cases.specs.Texts.{RecordOf, Passing, Failing}
 use Rattle.cases.proofs.Calls.{some_same}
 use Rattle.cases.proofs.Tests.{all_below, below, balanced, circulates, inside, within, left_fits, flow_fits, fits}
 
@@ -71,14 +71,6 @@ passing text x worth offers reads allowed fit w os = record { some = (Ok p, (x, 
     every : (r : Result Passed Fault) → Checks text r → MatchResult r (λ p. (p.worth ≡ worth) × (p.offers ≡ offers)) (λ _. ⊥)
     every (Ok p) h = let a = answered_once text x reads p h in (a.0 ∙ w, a.1 ∙ os)
     every (Err d) h = none-some (number d.refusal) (sym (one_answer text x reads None ((λ f. absurd (f allowed)), λ _. ((λ f. absurd (f fit)), λ _. refl)) (Err d) h))
-
--- whatever the offers come to
-pub at_worth : {text : List ℕ} {worth : Total} {offers : List OfferResult} → Passing text worth offers → PassingAt text worth
-at_worth {text} {worth} {offers} h = record { some = h.some; every = λ r c. less r (h.every r c) }
-  where
-    less : (r : Result Passed Fault) → MatchResult r (λ p. (p.worth ≡ worth) × (p.offers ≡ offers)) (λ _. ⊥) → MatchResult r (λ p. p.worth ≡ worth) (λ _. ⊥)
-    less (Ok p) h = h.0
-    less (Err d) h = h
 
 -- contents that fail
 pub failing_with : (text : List ℕ) (x : Contents) (e : Refusal) (n : ℕ) → Reads text x → First (failing x) (Some (number e)) → number e ≡ n → Failing text n 0

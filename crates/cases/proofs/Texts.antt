@@ -1,18 +1,17 @@
 -- The records of the worked cases.
-use Rattle.std.proofs.Common.{leb-true, slice_index_or, ◌≡◌, ℕ, Some, None, Ok, Err, Result, MatchResult, length, take, drop, ap, ◌∙◌, subst, inl, inr, ◌<◌, ◌≤◌, List, [], ◌∷◌, ◌++◌, map, ℤ, pos, negsuc, codes, refl, sym, subst₂, true≢false, arith}
-use borrow.Author.Differences.{ints}
+use Rattle.std.proofs.Common.{leb-true, slice_index_or, ◌≡◌, ℕ, Some, None, Ok, Err, Result, length, take, drop, ap, ◌∙◌, ◌<◌, ◌≤◌, List, [], ◌∷◌, ◌++◌, map, ℤ, pos, negsuc, codes, refl, true≢false, arith}
 use Rattle.std.proofs.lemmas.Bool.{ltb-true}
 use Rattle.tables.specs.Refusals.{number}
 use Rattle.tables.specs.declared.refusal.Refusal.TheVariants.{Unfit, Layout, Rule}
-use Rattle.worth.specs.Money.{money, of_cents}
+use Rattle.worth.specs.Money.{money}
 use Rattle.worth.specs.Weeks.{weeks}
 use Rattle.worth.specs.Lexicographic.{pile}
-use Rattle.book.specs.Allotments.{Allotment, Allowed, payoffs}
+use Rattle.book.specs.Allotments.{Allotment, Allowed}
 use Rattle.book.specs.Books.{Book, Sound}
 use Rattle.layout.specs.Records.{by_money, by_money_then_weeks, Contents, allotted, contents_of}
 use Rattle.layout.specs.Runs.{Reads}
 use Rattle.record.specs.Checks.{total_by, result_of}
-use Rattle.record.specs.Evidence.{BestBy, amount, amount_and_weeks, network_of, LevelsFit}
+use Rattle.record.specs.Evidence.{amount, amount_and_weeks, network_of, LevelsFit}
 use Rattle.record.specs.declared.passed.Total.{Total}
 use Rattle.record.specs.declared.passed.OfferResult.{OfferResult}
 use Rattle.book.specs.Rows.{map_with}
@@ -23,30 +22,21 @@ use Rattle.cases.specs.Chain.{money_text, chain_levels, raised_levels, levels_wi
 use Rattle.cases.specs.Market.{market_text}
 use Rattle.cases.specs.Cases.{empty_text}
 use Rattle.std.proofs.lemmas.Option.{none-some}
-use Rattle.std.proofs.Math.Seq.{take-append_seam}
 use Rattle.std.proofs.ByRecursion.{All-weaker}
-use Rattle.layout.specs.Render.{render}
-use Rattle.record.specs.declared.passed.Total.TheVariants.{Money}
 use Rattle.std.specs.List.{AllByRecursion}
 use Rattle.tables.specs.Refusals.{Row, when, First}
 use Rattle.tables.specs.declared.refusal.Refusal.{Refusal}
-use Rattle.text.specs.declared.fault.Fault.{Fault}
 use Rattle.book.specs.Books.{Any}
-use Rattle.layout.specs.Records.{level_size, FairLevel, book_of}
+use Rattle.layout.specs.Records.{level_size, FairLevel}
 use Rattle.layout.proofs.Lines.{answer_once}
-use Rattle.layout.proofs.Once.{one_outcome}
 use Rattle.layout.proofs.Recorded.{all_recorded}
-use Rattle.layout.proofs.Renders.{reads_records}
-use Rattle.record.specs.Evidence.{Passes}
 use Rattle.record.specs.Files.{Files}
-use Rattle.record.specs.Sheets.{Sheet, Clears, FiledBest, Clearing}
-use Rattle.record.proofs.Passing.{evidence}
-use Rattle.cases.specs.Texts.{Filing, ClearingSheet, PassingAt}
-use Rattle.cases.specs.Chain.{filed_levels, threes, chain_sheet, money_lines, cut_text}
+use Rattle.cases.specs.Texts.{Filing}
+use Rattle.cases.specs.Chain.{filed_levels, threes, money_lines, cut_text}
 use Rattle.cases.proofs.Cuts.{lacking}
 use Rattle.cases.proofs.Building.{first_none, no_any}
-use Rattle.cases.proofs.Records.{fair_allotment, fair_levels}
-use Rattle.cases.proofs.Records.{refused_with, record_of, passing, at_worth, failing_with, all, reading, allowed_by, fitted}
+use Rattle.cases.proofs.Records.{fair_levels}
+use Rattle.cases.proofs.Records.{refused_with, record_of, passing, failing_with, all, reading, allowed_by, fitted}
 use Rattle.cases.proofs.Rounds.{sound, held, two, chain_book, chain_run, cash_run, market_book, market_run}
 
 -- levels by money
@@ -113,49 +103,6 @@ chain_filed n is = record {
     every : (page after : List ℕ) (r : Result ℕ Refusal) → 198 ≤ length page → Files by_money book threes filed_levels page after r → (r ≡ Ok n) × (after ≡ money_text (codes "3") chain_levels ++ drop n page)
     every page after (Ok m) h f = let e : m ≡ n = f.outcome.length ∙ is in (ap Ok e, f.outcome.page ∙ ap (λ k. money_text (codes "3") chain_levels ++ drop k page) e)
     every page after (Err e) h f = absurd (none-some (number e) (answer_once (page_rows page) None (Some (number e)) (no_row page h) f.refused))
-
--- its sheet cleared
-
-abbrev sheet : Contents
-sheet = contents_of by_money book (all 0) []
-
-sheet_reads : Reads chain_sheet sheet
-sheet_reads =
-    let v = (all_recorded by_money book (all 0) filed_levels).valid book_sound (fair_allotment book.offers (all 0) refl) (fair_levels by_money filed_levels refl) refl in
-    (reads_records chain_sheet sheet).1 (refl, record { sound = v.sound; units = v.units; levels = tt; levelled = inl refl })
-
-is_sheet : Sheet sheet
-is_sheet = record { unlevelled = refl; unfilled = (((refl, tt), (refl, tt)), (((refl, tt), (refl, tt)), (((refl, tt), (refl, tt)), tt))); standing = (ltb-true 0 5 refl, (ltb-true 0 3 refl, (ltb-true 0 10 refl, tt))) }
-
-chain_passing : Passes (money_text (codes "3") chain_levels) (chain 3 fitting)
-chain_passing = record { reads = chain_reads; allowed = threes_allowed fitting; fits = fitted money (network_of (chain 3 fitting)) (map amount (levels fitting)) refl refl refl }
-
--- each record of the round that passes is worth as much
-worth_once : (y : Contents) → Clears by_money book y → (worth : Total) → total_by by_money book (allotted (chain 3 fitting)) ≡ worth → total_by y.kind (book_of y) (allotted y) ≡ worth
-worth_once y c worth is =
-    let own = evidence.0 (render y) y c.passes in
-    let allowed : Allowed book (allotted y) = subst (λ b. Allowed b (allotted y)) c.book own.0 in
-    let best : BestBy by_money book (allotted y) = subst₂ (λ k b. BestBy k b (allotted y)) c.kind c.book own.1 in
-    let known = evidence.0 (money_text (codes "3") chain_levels) (chain 3 fitting) chain_passing in
-    let same : payoffs book.offers (allotted y) ≡ payoffs book.offers (allotted (chain 3 fitting)) = omega (arith, ints, best (allotted (chain 3 fitting)) known.0, known.1 (allotted y) allowed) in
-    (λ i. total_by (c.kind i) (c.book i) (allotted y)) ∙ (λ i. Money (of_cents (same i))) ∙ is
-
-pub sheet_cleared : (worth : Total) → total_by by_money book (allotted (chain 3 fitting)) ≡ worth → ClearingSheet chain_sheet worth
-sheet_cleared worth is = record { some = some; every = every }
-  where
-    some : (page : List ℕ) → 32768 ≤ length page → (after : List ℕ) × (r : Result ℕ Fault) × Clearing chain_sheet page after r
-    some page h = (money_text (codes "3") chain_levels ++ drop 198 page, Ok 198, record { sheet = sheet; reads = sheet_reads; is = is_sheet; filed = record { contents = chain 3 fitting; clears = record { passes = chain_passing; kind = refl; book = refl }; length = refl; page = refl } })
-
-    every : (page after : List ℕ) (r : Result ℕ Fault) → 32768 ≤ length page → Clearing chain_sheet page after r → MatchResult r (λ n. PassingAt (take n after) worth) (λ _. ⊥)
-    every page after (Ok n) h c =
-        let filed : FiledBest by_money book page after n = subst (λ x. FiledBest x.kind (book_of x) page after n) (one_outcome.one_reading chain_sheet c.sheet sheet c.reads sheet_reads) c.filed in
-        let y = filed.contents in
-        let p = filed.clears.passes in
-        let text : take n after ≡ render y = (λ i. take (filed.length i) (filed.page i)) ∙ take-append_seam (render y) (drop n page) in
-        subst (λ t. PassingAt t worth) (sym text) (at_worth (passing (render y) y worth (map_with result_of (book_of y).offers (allotted y)) p.reads p.allowed p.fits (worth_once y filed.clears worth is) refl))
-    every page after (Err f) h (e, inl d) = one_outcome.not_both chain_sheet sheet (number f.refusal) f.line sheet_reads d
-    every page after (Err f) h (e, inr (inl d)) = d.not (subst Sheet (one_outcome.one_reading chain_sheet sheet d.contents sheet_reads d.reads) is_sheet)
-    every page after (Err f) h (e, inr (inr d)) = omega (arith, d.short.short, d.short.clears.passes.reads.0)
 
 -- with all levels 7 higher
 
@@ -254,7 +201,7 @@ weeks_pass worth offers is are = passing weeks_text weekly worth offers weeks_re
 
 -- the example market
 
-abbrev by_lists : List (List ℕ × List ℕ) → Allotment
+abbrev pub by_lists : List (List ℕ × List ℕ) → Allotment
 by_lists us k = let u = slice_index_or us k ([], []) in record { give = λ t. slice_index_or u.0 t 0; get = λ t. slice_index_or u.1 t 0 }
 
 abbrev traded : Allotment

@@ -19,7 +19,7 @@ use Rattle.record.specs.declared.passed.Total.TheVariants as total
 use Rattle.cases.specs.Calls.{Answer, numbered, done, refused, Call, member, hold, offer, Built, ClosedWith, Closed, Pays, Hauled}
 use Rattle.cases.specs.Clearing.{Best, RisesOnce, Clears, Leaves}
 use Rattle.cases.specs.Texts.{RecordOf, Passing, Failing, Filing, ClearingSheet}
-use Rattle.cases.specs.Chain.{line, chain, chain_answers, money_text, chain_levels, filed_levels, threes, raised_levels, levels_with_79, cut_text, chain_sheet, cash_text, no_cash_text, weeks_text}
+use Rattle.cases.specs.Chain.{line, chain, chain_answers, money_text, chain_levels, filed_levels, threes, raised_levels, levels_with_79, cut_text, chain_sheet, sheet_at_70, cash_text, no_cash_text, weeks_text}
 use Rattle.cases.specs.Resale.{resale, resale_answers}
 use Rattle.cases.specs.Market.{market, market_answers, market_text}
 
@@ -161,9 +161,11 @@ pub record Cases {W : Type 0} (o : Ops W) (x : Numbers) : Type 0 where
   pub is_no_cash_record : Built (chain (hold 2 0 0 ∷ []) 160) (chain_answers (done ∷ [])) (RecordOf no_cash_text by_money)
   pub is_weeks_record : Built (chain [] 70) (chain_answers []) (RecordOf weeks_text by_money_then_weeks)
   pub is_market_record : Built market market_answers (RecordOf market_text by_money)
-  -- file writes that of the chain round, and clear_sheet fills in its sheet
+  -- file writes that of the chain round; clear_sheet fills in its sheet, and with the last price 70 it leaves 0 units on each line, though
+  -- 3 on each would be worth as much
   pub chain_filed : Built (chain [] 160) (chain_answers []) (λ b. Filing (money_text (codes "3") chain_levels) by_money b threes filed_levels x.record_length)
-  pub sheet_cleared : ClearingSheet chain_sheet (total.Money (cents x.sheet_worth))
+  pub sheet_cleared : ClearingSheet chain_sheet (total.Money (cents x.sheet_worth)) (comes_to (negsuc 299) 0 ∷ comes_to (pos 90) 3 ∷ comes_to (pos 480) 3 ∷ [])
+  pub sheet_at_70_cleared : ClearingSheet sheet_at_70 (total.Money (cents x.rise_at_70)) (comes_to (pos 0) 0 ∷ comes_to (pos 0) 0 ∷ comes_to (pos 0) 0 ∷ [])
   -- they pass, and that of the chain round does with all levels 7 higher too
   pub empty_passes : Passing empty_text (total.Money (cents x.empty_record)) []
   pub chain_passes : Passing (money_text (codes "3") chain_levels) (total.Money (cents x.chain_record)) (comes_to (negsuc 299) 0 ∷ comes_to (pos 90) 3 ∷ comes_to (pos 480) 3 ∷ [])

@@ -90,3 +90,7 @@ no_cash_text = ended (cash_lines (codes "0"))
 -- by money then weeks, with price 70
 abbrev pub weeks_text : List ℕ
 weeks_text = ended (chain_lines (map codes ("K 2" ∷ "money" ∷ "weeks" ∷ [])) (map codes ("H 2" ∷ "0 1 5" ∷ "1 2 4" ∷ [])) (codes "3") (codes "70") (map codes ("L 11" ∷ "0 0" ∷ "100 0" ∷ "70 1" ∷ "100 0" ∷ "70 1" ∷ "0 0" ∷ "0 0" ∷ "-80 1" ∷ "-80 -1" ∷ "0 0" ∷ "0 0" ∷ [])))
+
+-- the sheet by money with price 70, at which no cycle is worth more than none
+abbrev pub sheet_at_70 : List ℕ
+sheet_at_70 = ended (chain_lines (map codes ("K 1" ∷ "money" ∷ [])) (map codes ("H 2" ∷ "0 1 5" ∷ "1 2 4" ∷ [])) (codes "0") (codes "70") (codes "L 0" ∷ []))

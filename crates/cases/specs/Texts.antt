@@ -28,10 +28,6 @@ pub record Check (text : List ℕ) (P : Result Passed Fault → Type 0) : Type 0
 abbrev pub Passing : List ℕ → Total → List OfferResult → Type 0
 Passing text worth offers = Check text (λ r. MatchResult r (λ p. (p.worth ≡ worth) × (p.offers ≡ offers)) (λ _. ⊥))
 
--- the text passes with this worth
-abbrev pub PassingAt : List ℕ → Total → Type 0
-PassingAt text worth = Check text (λ r. MatchResult r (λ p. p.worth ≡ worth) (λ _. ⊥))
-
 -- the text gets the refusal of this number, at this line, or at line 0 where no line is to blame
 abbrev pub Failing : List ℕ → ℕ → ℕ → Type 0
 Failing text n line = Check text (λ r. MatchResult r (λ _. ⊥) (λ f. (number f.refusal ≡ n) × (f.line ≡ line)))
@@ -43,7 +39,7 @@ pub record Filing (text : List ℕ) (k : Kind) (b : Book) (a : Allotment) (level
   pub every : (page after : List ℕ) (r : Result ℕ Refusal) → length text ≤ length page → Files k b a levels page after r → (r ≡ Ok n) × (after ≡ text ++ drop n page)
 
 -- on each page of 32,768 bytes clear_sheet can clear the sheet; and however it comes back, it is not refused, and as many bytes of
--- the page as it answers are a text that passes with this worth
-pub record ClearingSheet (sheet : List ℕ) (worth : Total) : Type 0 where
+-- the page as it answers are a text that passes with this worth and these results of its offers
+pub record ClearingSheet (sheet : List ℕ) (worth : Total) (offers : List OfferResult) : Type 0 where
   pub some : (page : List ℕ) → 32768 ≤ length page → (after : List ℕ) × (r : Result ℕ Fault) × Clearing sheet page after r
-  pub every : (page after : List ℕ) (r : Result ℕ Fault) → 32768 ≤ length page → Clearing sheet page after r → MatchResult r (λ n. PassingAt (take n after) worth) (λ _. ⊥)
+  pub every : (page after : List ℕ) (r : Result ℕ Fault) → 32768 ≤ length page → Clearing sheet page after r → MatchResult r (λ n. Passing (take n after) worth offers) (λ _. ⊥)

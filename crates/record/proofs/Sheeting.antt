@@ -30,7 +30,7 @@ use Rattle.record.specs.Files.{filed, Files, Roomy}
 use Rattle.record.specs.Levels.{Levelled}
 use Rattle.record.specs.Sheets.{Unfilled, Clears, PageShort, ClearedRound}
 use Rattle.record.proofs.Evident.{none_over, filed_passes}
-use Rattle.record.proofs.Filing.{worths_over}
+use Rattle.record.proofs.Filing.{first_levels, worths_over}
 use Rattle.record.proofs.Unpaged.{never_paged}
 
 all_from_map : {X Y : Type 0} (P : Y → Type 0) (f : X → Y) (xs : List X) → AllByRecursion P (map f xs) → AllByRecursion (λ x. P (f x)) xs
@@ -70,8 +70,17 @@ module _ {W : Type 0} {o : Ops W} (laws : Laws o) {k : Kind} {level : W → Leve
   fitted : Fitted o (filled b a) work'
   fitted = subst (λ m. Fitted o m work') found.0 c.1
 
-  clears : Clears k b (filed k b a zs)
-  clears = record { passes = filed_passes laws told b a work' s found.1 fitted; kind = refl; book = (all_recorded k b a (take (nodes b) zs)).book }
+  pub clears : Clears k b (filed k b a zs)
+  clears =
+      record {
+        net = n;
+        levels = take (nodes b) zs;
+        cleared = told.cleared b n (take (nodes b) zs) (record { work = work; work' = work'; sum = sum; clears = c; levels = sym (first_levels told (nodes b) work' (take (nodes b) work') refl) });
+        filled = refl;
+        passes = filed_passes laws told b a work' s found.1 fitted;
+        kind = refl;
+        book = (all_recorded k b a (take (nodes b) zs)).book;
+      }
 
   -- a record that is filed after clearing passes, and only a short page can be refused
   pub filed_best : (before after : List ℕ) (r : Result ℕ Refusal) → Files k b a zs before after r → ClearedRound k b before after r

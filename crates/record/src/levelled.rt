@@ -54,6 +54,7 @@ impl Levelled for Money {
       sized = λ w. refl;
       again = λ l. refl;
       fitting = λ n ws. (λ f. subst (Fitted SpecsMoney.money n) (sym (amounts_again ws)) f, λ f. subst (Fitted SpecsMoney.money n) (amounts_again ws) f);
+      cleared = λ b n zs l. l;
     } };
 
     fn kind() -> Kind {
@@ -83,6 +84,7 @@ impl Levelled for MoneyThenWeeks {
       sized = λ w. refl;
       again = λ l. refl;
       fitting = λ n ws. (λ f. subst (Fitted (pile SpecsMoney.money SpecsWeeks.weeks) n) (sym (pairs_again ws)) f, λ f. subst (Fitted (pile SpecsMoney.money SpecsWeeks.weeks) n) (pairs_again ws) f);
+      cleared = λ b n zs l. l;
     } };
 
     fn kind() -> Kind {

@@ -8,7 +8,8 @@ use Rattle.cases.proofs.Filled.{roads_filled}
 use Rattle.cases.proofs.NoCash.{no_cash_is, no_cash_passes}
 use Rattle.cases.proofs.Rounds.{chain_run, cash_run, resale_run, quay_run, market_run, loop_run, same_run, lower_run, highest_run, lowest_run, road_run}
 use Rattle.cases.proofs.Edges.{limits_refused, prices_refused}
-use Rattle.cases.proofs.Texts.{empty_is, empty_passes, chain_is, chain_passes, chain_filed, sheet_cleared, raised_passes, changed_fails, twos_fail, fours_fail, cut_fails, cash_is, cash_passes, weeks_is, weeks_pass, market_is, market_passes}
+use Rattle.cases.proofs.Texts.{empty_is, empty_passes, chain_is, chain_passes, chain_filed, raised_passes, changed_fails, twos_fail, fours_fail, cut_fails, cash_is, cash_passes, weeks_is, weeks_pass, market_is, market_passes}
+use Rattle.cases.proofs.Sheets.{sheet_cleared, sheet_at_70_cleared}
 use Rattle.cases.proofs.worked.cases_stand.Goals as goal
 
 pub returns : goal.returns
@@ -36,7 +37,8 @@ returns g c = record {
   is_weeks_record = built (chain_run 70 refl) _ weeks_is;
   is_market_record = built market_run _ market_is;
   chain_filed = built (chain_run 160 refl) _ (chain_filed _ refl);
-  sheet_cleared = sheet_cleared _ refl;
+  sheet_cleared = sheet_cleared _ _ (λ zs. refl) (λ zs. refl);
+  sheet_at_70_cleared = sheet_at_70_cleared _ _ (λ zs. refl) (λ zs. refl);
   empty_passes = empty_passes _ refl;
   chain_passes = chain_passes _ _ refl refl;
   raised_passes = raised_passes _ _ refl refl;

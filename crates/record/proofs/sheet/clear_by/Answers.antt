@@ -1,4 +1,4 @@
-use Rattle.std.proofs.Common.{◌≡◌, replicate, Ok, sym, ap, ◌∙◌, subst}
+use Rattle.std.proofs.Common.{◌≡◌, replicate, Ok, sym, ◌∙◌, subst}
 use Rattle.search.specs.Outcomes.{Clearing}
 use Rattle.book.specs.Arcs.{net_of}
 use Rattle.round.specs.Closed.{closed_book, closed_net}
@@ -15,8 +15,9 @@ returns g c =
     let closes = c.close-closed.ensures.outcome in
     let cleared = c.in_ok-clear.ensures in
     let after = c.clear.new.self in
-    let same : closed_book after ≡ book c.args.round = cleared.kept ∙ closes.book in
-    let net : closed_net c.close-closed.result ≡ net_of (closed_book after) = closes.net ∙ ap net_of (sym same) in
     let sum = c.in_ok-clear.field-0 in
-    let climbed : Clearing o (net_of (closed_book after)) (closed_net after) (replicate 272 c.none-work.result) c.clear.new.work (Ok sum) = subst (λ n. Clearing o n (closed_net after) (replicate 272 c.none-work.result) c.clear.new.work (Ok sum)) net cleared.outcome in
+    let work = replicate 272 c.none-work.result in
+    let from_none : Clearing o (net_of (book c.args.round)) (closed_net after) work c.clear.new.work (Ok sum) = subst (λ n. Clearing o n (closed_net after) work c.clear.new.work (Ok sum)) closes.net cleared.outcome in
+    let same : closed_book after ≡ book c.args.round = cleared.kept ∙ closes.book in
+    let climbed : Clearing o (net_of (closed_book after)) (closed_net after) work c.clear.new.work (Ok sum) = subst (λ b. Clearing o (net_of b) (closed_net after) work c.clear.new.work (Ok sum)) (sym same) from_none in
     subst (λ b. ClearedRound k b c.args.page.now c.file.new.page c.file.result) same (filed_best g.met.W.Worth.lawful g.met.W.Levelled.told (closed_book after) (closed_net after) _ _ sum (book_sound (closed_book after) after.round.sound) climbed c.args.page.now c.file.new.page c.file.result c.file.ensures.outcome)

@@ -1,8 +1,11 @@
 // The sizes of a round, and the bounds of what stands in it.
 
 pub const MOST_ITEMS: usize = 16;
+
 pub const MOST_MEMBERS: usize = 32;
+
 pub const MOST_HOLDINGS: usize = 128;
+
 pub const MOST_OFFERS: usize = 64;
 
 // Over both sides of all offers.

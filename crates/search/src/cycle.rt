@@ -3,9 +3,10 @@ ghost use Rattle.std.specs.Prelude.{◌≡◌, ◌≤◌, length, take};
 
 use super::links::{Ascent, Links};
 use flow::step::Step;
+use network::bounds::MOST_NODES;
 use worth::kind::Worth;
 
-// The step that closes it, and the links from that step's tail up to its head.
+// The step that closes it, and the links, by which the way leads on from that step's tail up to its head.
 #[derive(Clone, Copy)]
 pub(crate) struct Cycle<'a> {
     pub(crate) links: Links<'a>,
@@ -21,10 +22,10 @@ pub(crate) struct Measure<W> {
 }
 
 // A row for the steps of a cycle, at the full size of a search.
-pub(crate) fn no_steps() -> [Step; 272]
+pub(crate) fn no_steps() -> [Step; MOST_NODES]
     ensures { length result ≡ 272 }
 {
-    [Step::Forward(0); 272]
+    [Step::Forward(0); MOST_NODES]
 }
 
 impl<'a> Cycle<'a> {

@@ -7,21 +7,21 @@ use super::residual::Residual;
 use super::shift::shift;
 use super::sweep::{Search, blank, no_links, no_ups};
 use flow::arc::Arc;
+use network::bounds::MOST_ARCS;
 use network::improvable::Improvable;
 use network::readable::Network;
 use tables::refusal::Refusal;
 use tables::table::Table;
 use worth::kind::Worth;
 
-// Reads the arcs of a network into a table, since the search reads each of them many times. The table is lent: where it was
-// answered it was copied once more, and small networks took nearly twice as long to clear.
-pub(crate) fn read_arcs<N: Network>(net: &N, table: &mut Table<Arc, 448>)
+// Reads the arcs of a network into a table, since the search reads each of them many times. The table is lent: where it is
+// answered it is copied once more, and small networks take nearly twice as long to clear.
+pub(crate) fn read_arcs<N: Network>(net: &N, table: &mut Table<Arc, MOST_ARCS>)
     requires { table.old ≡ [] }
     ensures { table.new ≡ (N.Network.net net.now).arcs }
 {
     for arc in net.arcs() {
-        // a network has no more arcs than the table has room for
-        let _ = table.push(arc);
+        table.push(arc).unwrap();
     }
 }
 

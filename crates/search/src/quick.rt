@@ -15,6 +15,7 @@ use super::shift::{arc_of, shift};
 use super::sweep::{Search, blank, no_links, no_ups};
 use flow::arc::Arc;
 use flow::step::Step;
+use network::bounds::MOST_ARCS;
 use network::improvable::Improvable;
 use network::readable::Network;
 use std::ops::ControlFlow;
@@ -22,7 +23,7 @@ use tables::table::Table;
 use worth::kind::Worth;
 
 // At most so many, so that the sizes of potentials stay within their bound: a pass adds at most 448 to them.
-const PASSES: usize = 1000;
+const PASSES: usize = 1_000;
 
 // How quick cycles end, with the sum of their rises.
 pub(crate) enum Climbed<W> {
@@ -90,7 +91,7 @@ fn measure_closed<'a, W: Worth>(
 // Shifts along the cycle that a step closes, and cuts the links. A row for its steps is lent.
 fn take<N: Improvable>(
     net: &mut N,
-    table: &mut Table<Arc, 448>,
+    table: &mut Table<Arc, MOST_ARCS>,
     links: &mut [Option<Step>],
     ups: &mut [usize],
     steps: &mut [Step],

@@ -8,6 +8,7 @@ ghost use Rattle.search.specs.Searches.{Measures};
 use super::cycle::Measure;
 use flow::arc::Arc;
 use flow::step::Step;
+use network::bounds::MOST_ARCS;
 use network::improvable::Improvable;
 use network::readable::Network;
 use tables::table::Table;
@@ -22,7 +23,7 @@ pub(crate) fn arc_of(step: Step) -> usize
     }
 }
 
-// Moves an amount along one step. The step can take it, so the push is not refused. The two cases differ in a sign, and one push after
+// Moves an amount along one step, which can take it. The two cases differ in a sign, and one push after
 // a `match` for the sign would be no shorter.
 fn push_step<N: Improvable>(net: &mut N, step: Step, amount: u32)
     requires { Takes (N.Network.net net.old) amount step }
@@ -31,31 +32,29 @@ fn push_step<N: Improvable>(net: &mut N, step: Step, amount: u32)
 {
     match step {
         Step::Forward(i) => {
-            let _ = net.push(i as u32, i64::from(amount));
+            net.push(i as u32, i64::from(amount)).unwrap();
         }
         Step::Backward(i) => {
-            let _ = net.push(i as u32, -i64::from(amount));
+            net.push(i as u32, -i64::from(amount)).unwrap();
         }
     }
 }
 
-// Reads one arc again into a table that has as many.
-fn read_arc<N: Network>(net: &N, table: &mut Table<Arc, 448>, i: usize)
+// Reads one arc again into a table that has as many places as there are arcs.
+fn read_arc<N: Network>(net: &N, table: &mut Table<Arc, MOST_ARCS>, i: usize)
     requires long { length table.old ≡ length (N.Network.net net.now).arcs }
     requires known { i < length table.old }
     ensures { table.new ≡ slice_set table.old i (arc_at (N.Network.net net.now).arcs i) }
 {
-    if let Ok(arc) = net.arc(i as u32) {
-        // there are as many places as arcs
-        let _ = table.set(i, arc);
-    }
+    let arc = net.arc(i as u32).unwrap();
+    table.set(i, arc).unwrap();
 }
 
 // Moves as much along a cycle as it allows, and answers what the worth rises by. Of the arcs, which were read into a table,
 // those of the cycle are read again.
 pub(crate) fn shift<N: Improvable>(
     net: &mut N,
-    table: &mut Table<Arc, 448>,
+    table: &mut Table<Arc, MOST_ARCS>,
     steps: &[Step],
     measure: Measure<N::W>,
 ) -> N::W

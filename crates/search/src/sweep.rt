@@ -7,11 +7,13 @@ use super::cycle::Cycle;
 use super::links::Links;
 use super::residual::Residual;
 use flow::step::Step;
+use network::bounds::MOST_NODES;
 use std::ops::ControlFlow;
 use worth::kind::Worth;
 
-// A potential and a link for each node of a network: two rows, since the potentials lie in the work table that the caller lends.
-// Beside each link lies the node that it starts from, since the ways up are gone often. All are lent, so that a search can go on where another ended.
+// For each node of a network a potential, a link, and the node that the link starts from. The potentials have a row of their own, since they lie in
+// the work table that the caller lends, and the nodes one, since the ways up are gone so often that a smaller row pays. All are lent, so that a search can
+// go on where another ended.
 // `Same` is what each method that writes keeps; `Growing` is no invariant, since its bound differs from call to call.
 #[derive(Drop)]
 pub(crate) struct Search<'a, W> {
@@ -209,17 +211,17 @@ pub(crate) fn blank<W: Worth>(work: &mut [W])
 }
 
 // No links, at the full size of a search. They are made apart, so that what is proved of a search does not list its entries.
-pub(crate) fn no_links() -> [Option<Step>; 272]
+pub(crate) fn no_links() -> [Option<Step>; MOST_NODES]
     ensures long { length result ≡ 272 }
     ensures unlinked { Unlinked result }
 {
-    [None; 272]
+    [None; MOST_NODES]
 }
 
-// For each node, that it has no link.
-pub(crate) fn no_ups() -> [usize; 272]
+// For each node that its link starts from none: a number that no node has.
+pub(crate) fn no_ups() -> [usize; MOST_NODES]
     ensures long { length result ≡ 272 }
     ensures none { (v : ℕ) → v < 272 → slice_index_or result v 0 ≡ 272 }
 {
-    [272; 272]
+    [MOST_NODES; MOST_NODES]
 }

@@ -128,4 +128,4 @@ laws_of weeks_alone = weeks_laws
 laws_of (piled a b) = pile_laws (laws_of a) (laws_of b)
 
 pub round_law : RoundLaw
-round_law = (open_law, λ k. law_holds (laws_of k))
+round_law = (open_law, λ k. law_holds (laws_of k), λ o l. law_holds l)

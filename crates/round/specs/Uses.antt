@@ -2,7 +2,7 @@
 use Rattle.std.specs.Prelude.{◌≡◌, ℕ, ◌<◌, ◌↔◌, Bool, ◌==◌, ◌&&◌, List, [], ◌∷◌, map, length, reverse, filter_map, find, Contains, codes, slice_index_or, Some, None, Option, option_map, Ok, Err, Result}
 use Rattle.std.specs.Set.{unique_keys}
 use Rattle.tables.specs.declared.refusal.Refusal.{Refusal}
-use Rattle.worth.specs.Kinds.{Ops}
+use Rattle.worth.specs.Kinds.{Ops, Laws}
 use Rattle.network.specs.Networks.{Net, flow_in, value}
 use Rattle.search.specs.Outcomes.{Improving, Clearing}
 use Rattle.search.specs.Uses.{risen, summed}
@@ -124,10 +124,10 @@ module _ {W : Type 0} (o : Ops W) where
   abbrev pub Law : Type 0
   Law = (calls : List Accepted) (b : Book) (n : Net) (sum : W) → Use o calls b n sum → Standing calls b n sum
 
--- what holds over whole uses: the calls of an open round know no kind, so it stands on them for each kind that is piled up from money and weeks,
--- and on close, improve and clear for any
+-- what holds over whole uses: the calls of an open round know no kind, so it stands on them for each kind that is piled up from money and weeks, and
+-- for each whose worths are numbered by the whole numbers; on close, improve, clear and worth it stands for any
 abbrev pub RoundLaw : Type 0
-RoundLaw = OpenLaw × ((kind : Piled) → Law (ops_of kind))
+RoundLaw = OpenLaw × ((kind : Piled) → Law (ops_of kind)) × ((o : Ops ℕ) → Laws o → Law o)
 
 -- some calls from open on leave this book
 abbrev pub Built : Book → Type 0

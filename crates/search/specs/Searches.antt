@@ -24,7 +24,7 @@ net_of r = record { nodes = r.nodes; arcs = r.arcs.now }
 abbrev pub round : Cycle → List Step
 round c = let ls = c.links.net.arcs.now in let ks = c.links.last.now in climb ls ks (head_of ls c.closing) (Some c.closing) (length ks)
 
--- both are over one network, and write their potentials into one table and their links into one
+-- both are over one network, and write their potentials, their links and the nodes that these start from into the same rows
 pub record Same {W : Type 0} (s t : Search W) : Type 0 where
   pub net : t.net ≡ s.net
   pub held : t.potentials.ghost_name ≡ s.potentials.ghost_name

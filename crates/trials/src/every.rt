@@ -2,10 +2,10 @@ use flow::arc::Arc;
 
 // What the best circulation is worth in money, in weeks, and in money then weeks.
 #[derive(Clone, Copy, Default, PartialEq, Eq)]
-pub struct Best {
-    pub money: i64,
-    pub weeks: i64,
-    pub both: (i64, i64),
+pub(crate) struct Best {
+    pub(crate) money: i64,
+    pub(crate) weeks: i64,
+    pub(crate) both: (i64, i64),
 }
 
 impl Best {
@@ -65,7 +65,7 @@ fn sums(arcs: &[Arc]) -> (i64, i64) {
 }
 
 // The best of all circulations of at most five arcs with capacities up to 2: 3 to the power of 5 rows of flows.
-pub fn best_of(arcs: &mut [Arc]) -> Best {
+pub(crate) fn best_of(arcs: &mut [Arc]) -> Best {
     let mut best = Best::default();
     // the bound on the rows is what shows that this ends
     for _ in 0..243 {

@@ -4,12 +4,12 @@ use flow::arc::Arc;
 
 // Numbers that look random and are the same in each run and with each kit.
 #[derive(Clone, Copy)]
-pub struct Random {
+pub(crate) struct Random {
     state: u64,
 }
 
 impl Random {
-    pub fn new(state: u64) -> Self {
+    pub(crate) fn new(state: u64) -> Self {
         Random { state }
     }
 
@@ -44,7 +44,7 @@ impl Random {
 
     // Up to five arcs between up to four nodes, parallel ones and loops among them, at the start of the room that is lent. It is lent, since
     // this call may not fail, and a `Vec` could, for want of memory.
-    pub fn arcs<'a>(&mut self, room: &'a mut [Arc; 5]) -> &'a mut [Arc]
+    pub(crate) fn arcs<'a>(&mut self, room: &'a mut [Arc; 5]) -> &'a mut [Arc]
         ensures { length result.now ≤ 5 }
     {
         let nodes = self.below(4) + 1;

@@ -6,8 +6,9 @@ ghost use Rattle.flow.specs.Arcs.{fresh};
 ghost use Rattle.haul_table.specs.Roads.{hauled, empty, road_rows, Roaded, Alike};
 ghost use Rattle.haul_table.specs.Uses.{Law};
 
-use super::{HaulTable, MOST_ARCS, NODES};
+use super::{HaulTable, MOST_ROADS, NODES};
 use flow::arc::Arc;
+use network::bounds::{HIGHEST_PRICE, MOST_CAPACITY};
 use network::valuation::worth;
 use search::clear::clear;
 use search::improve::improve;
@@ -22,11 +23,11 @@ fn admit(arc: Arc, count: usize) -> Result<(), Refusal>
 {
     if arc.from >= NODES || arc.to >= NODES {
         Err(Refusal::Unknown)
-    } else if count >= MOST_ARCS {
+    } else if count >= MOST_ROADS {
         Err(Refusal::Full)
-    } else if arc.capacity > 1000 || arc.weeks > 1 {
+    } else if arc.capacity > MOST_CAPACITY || arc.weeks > 1 {
         Err(Refusal::Bounds)
-    } else if arc.price < -1_000_000 || arc.price > 1_000_000 {
+    } else if arc.price < -HIGHEST_PRICE || arc.price > HIGHEST_PRICE {
         Err(Refusal::Price)
     } else {
         Ok(())

@@ -1,7 +1,7 @@
 pub mod Steps
 pub mod Ways
 pub mod Forests
-pub mod Rounds
+pub mod Measuring
 pub mod Pushing
 pub mod Along
 pub mod Raising

@@ -20,7 +20,7 @@ use Rattle.search.specs.Links.{SoundArcs, onto}
 use Rattle.search.specs.Cycles.{Measured, Takes, taken, FullAlong}
 use Rattle.search.specs.Outcomes.{Improves}
 use Rattle.search.proofs.Steps.{has_arc}
-use Rattle.search.proofs.Rounds.{onto_first, onto_allows, residual_small}
+use Rattle.search.proofs.Measuring.{onto_first, onto_allows, residual_small}
 
 -- a list of arcs with the flow of one changed
 put_arcs : List Arc → ℕ → ℕ → List Arc

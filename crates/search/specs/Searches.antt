@@ -21,8 +21,8 @@ abbrev pub net_of : Residual → Net
 net_of r = record { nodes = r.nodes; arcs = r.arcs.now }
 
 -- the steps of a cycle, against their direction: the closing one, and up the links from its tail to its head
-abbrev pub round : Cycle → List Step
-round c = let ls = c.links.net.arcs.now in let ks = c.links.last.now in climb ls ks (head_of ls c.closing) (Some c.closing) (length ks)
+abbrev pub steps_of : Cycle → List Step
+steps_of c = let ls = c.links.net.arcs.now in let ks = c.links.last.now in climb ls ks (head_of ls c.closing) (Some c.closing) (length ks)
 
 -- both are over one network, and write their potentials, their links and the nodes that these start from into the same rows
 pub record Same {W : Type 0} (s t : Search W) : Type 0 where

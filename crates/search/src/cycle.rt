@@ -30,11 +30,11 @@ pub(crate) fn no_steps() -> [Step; MOST_NODES]
 
 impl<'a> Cycle<'a> {
     ghost use Rattle.search.specs.Ascents.{steps_left};
-    ghost use Rattle.search.specs.Searches.{net_of, round, Closes, Measures};
+    ghost use Rattle.search.specs.Searches.{net_of, steps_of, Closes, Measures};
 
     // The steps, against their direction: the closing one first.
     fn steps(self) -> Ascent<'a>
-        ensures { steps_left result ≡ round self.entry }
+        ensures { steps_left result ≡ steps_of self.entry }
     {
         let goal = self.links.net.head(self.closing);
         self.links.ascent(Some(self.closing), goal)
@@ -45,7 +45,7 @@ impl<'a> Cycle<'a> {
         requires closes { Closes W.ops self }
         requires long { self.links.net.nodes ≤ length steps.old }
         ensures few { result.count ≤ length steps.new }
-        ensures steps { take result.count steps.new ≡ round self.entry }
+        ensures steps { take result.count steps.new ≡ steps_of self.entry }
         ensures measured { Measures W.ops (net_of self.entry.links.net) (take result.count steps.new) result }
     {
         let net = self.links.net;

@@ -2,7 +2,7 @@ use Rattle.std.proofs.Common.{◌<◌, length, refl, ◌∙◌, ap, arith}
 use Rattle.std.proofs.lemmas.List.{length-set, take_more_set}
 use Rattle.flow.specs.Groups.{kind}
 use Rattle.search.specs.Ascents.{steps_left}
-use Rattle.search.proofs.Rounds.{measuring_first, measuring_fits, measuring_room, measuring_next, measuring_put, measuring_all}
+use Rattle.search.proofs.Measuring.{measuring_first, measuring_fits, measuring_room, measuring_next, measuring_put, measuring_all}
 use Rattle.search.proofs.cycle.Cycle.measure.Goals as goal
 
 pub loop-step-init : goal.loop-step-init

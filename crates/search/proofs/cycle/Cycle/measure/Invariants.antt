@@ -1,6 +1,6 @@
 use Rattle.std.proofs.Common.{◌≤◌, length, take}
 use Rattle.search.specs.Ascents.{steps_left}
-use Rattle.search.proofs.Rounds.{Measuring}
+use Rattle.search.proofs.Measuring.{Measuring}
 use Rattle.search.proofs.cycle.Cycle.measure.Given as goal
 
 abbrev pub invariant-loop-step : goal.invariant-loop-step

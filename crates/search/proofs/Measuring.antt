@@ -14,7 +14,7 @@ use Rattle.flow.specs.declared.step.Step.TheVariants.{Forward, Backward}
 use Rattle.search.specs.Links.{SoundArcs, tail_of, head_of, residual_of, link, Trail, onto, climb, after}
 use Rattle.search.specs.declared.cycle.Cycle.{Cycle}
 use Rattle.search.specs.Cycles.{Measured}
-use Rattle.search.specs.Searches.{round, Closes}
+use Rattle.search.specs.Searches.{steps_of, Closes}
 use Rattle.search.proofs.Steps.{bounded}
 use Rattle.search.proofs.Forests.{step_small}
 
@@ -33,8 +33,8 @@ module _ (ls : List Arc) (ks : List (Option Step)) where
 
 module _ {W : Type 0} {o : Ops W} (y : Cycle) (z : Closes o y) where
   -- the closing step, and then those that the proof of the cycle knows
-  pub round_is : round y ≡ y.closing ∷ z.trail
-  round_is = round_trail y.links.net.arcs.now y.links.last.now y.closing z.trail (length y.links.last.now) z.climbs (let l = z.short in let h = y.links.long in omega arith)
+  pub steps_are : steps_of y ≡ y.closing ∷ z.trail
+  steps_are = round_trail y.links.net.arcs.now y.links.last.now y.closing z.trail (length y.links.last.now) z.climbs (let l = z.short in let h = y.links.long in omega arith)
 
 -- what holds of each of the steps put together holds of both parts
 pub onto_last : (P : Step → Type 0) (q p : List Step) → AllByRecursion P (onto q p) → AllByRecursion P p
@@ -54,9 +54,9 @@ residual_small o n ls z (Backward j) = let a = bounded n ls z j in omega (arith,
 
 -- part of the way round a cycle: what the steps so far, those in the list p, allow and gain, where rest is to come
 pub record Measuring {W : Type 0} (o : Ops W) (y : Cycle) (p rest : List Step) (d : ℕ) (w : W) : Type 0 where
-  pub put : p ++ rest ≡ round y
+  pub put : p ++ rest ≡ steps_of y
   pub done : List Step
-  pub whole : onto rest done ≡ onto (round y) []
+  pub whole : onto rest done ≡ onto (steps_of y) []
   pub few : length rest + length p ≤ y.links.net.nodes
   pub counted : length done ≡ length p
   pub allowed : Allows (net o y.links.net.nodes y.links.net.arcs.now) (flow_of y.links.net.arcs.now) done d
@@ -72,12 +72,12 @@ module _ {W : Type 0} (G : Kind W) (y : Cycle) where
   N = net G.ops y.links.net.nodes ls
 
   module _ (z : Closes G.ops y) where
-    pub measuring_first : {rest : List Step} → rest ≡ round y → {w : W} → w ≡ G.ops.none → Measuring G.ops y [] rest 4294967295 w
+    pub measuring_first : {rest : List Step} → rest ≡ steps_of y → {w : W} → w ≡ G.ops.none → Measuring G.ops y [] rest 4294967295 w
     measuring_first {rest} e {w} none = record {
       put = e;
       done = [];
       whole = ap (λ q. onto q []) e;
-      few = let l = ap length (e ∙ round_is y z) in let h = z.short in omega arith;
+      few = let l = ap length (e ∙ steps_are y z) in let h = z.short in omega arith;
       counted = refl;
       allowed = tt;
       most = λ f h a. h;
@@ -85,13 +85,13 @@ module _ {W : Type 0} (G : Kind W) (y : Cycle) where
       small = omega (arith, ap G.ops.size none, G.laws.size_none);
     }
 
-    pub measuring_put : {p rest : List Step} → rest ≡ [] → {d : ℕ} {w : W} → Measuring G.ops y p rest d w → p ≡ round y
+    pub measuring_put : {p rest : List Step} → rest ≡ [] → {d : ℕ} {w : W} → Measuring G.ops y p rest d w → p ≡ steps_of y
     measuring_put {p} e m = sym (append-nil p) ∙ ap (λ q. p ++ q) (sym e) ∙ m.put
 
     pub measuring_all : {p rest : List Step} → rest ≡ [] → {d : ℕ} {w : W} → Measuring G.ops y p rest d w → Measured G.ops y.links.net.nodes ls p d w
     measuring_all {p} {rest} e {d} {w} m =
         let s = y.closing in
-        let cycle : onto p [] ≡ onto z.trail (s ∷ []) = ap (λ q. onto q []) (measuring_put e m ∙ round_is y z) in
+        let cycle : onto p [] ≡ onto z.trail (s ∷ []) = ap (λ q. onto q []) (measuring_put e m ∙ steps_are y z) in
         let is : m.done ≡ onto p [] = ap (λ q. onto q m.done) (sym e) ∙ m.whole ∙ ap (λ q. onto q []) (sym (measuring_put e m)) in
         record {
           gainful = subst (Gainful G.ops N (flow_of ls)) (sym cycle) z.gainful;

@@ -39,8 +39,8 @@ abbrev pub costs : ℕ × ℕ → ℤ × ℕ
 costs n = (neg_ℤ (pos n.0), n.1)
 
 -- what an offer comes to
-abbrev pub comes_to : ℤ → ℕ → OfferResult
-comes_to payoff weeks = record { payoff = payoff; weeks = weeks }
+abbrev pub comes_to : ℤ × ℕ → OfferResult
+comes_to p = record { payoff = p.0; weeks = p.1 }
 
 -- the empty round by a kind: improve answers best, and its network is worth none
 abbrev pub EmptyRound : {W : Type 0} → Ops W → Type 0
@@ -126,6 +126,10 @@ pub record Numbers : Type 0 where
   pub refusal_of_limits : ℕ
   pub refusal_of_prices : ℕ
 
+-- what the offers of the chain round come to
+abbrev pub chain_results : Numbers → List OfferResult
+chain_results x = comes_to (costs x.offer_0_costs) ∷ comes_to (pays x.offer_1_pays) ∷ comes_to (pays x.offer_2_pays) ∷ []
+
 -- what comes out, and of the empty round what comes out by a kind, whichever it is
 pub record Cases {W : Type 0} (o : Ops W) (x : Numbers) : Type 0 where
   -- the empty round by that kind
@@ -164,16 +168,16 @@ pub record Cases {W : Type 0} (o : Ops W) (x : Numbers) : Type 0 where
   -- file writes that of the chain round; clear_sheet fills in its sheet, and with the last price 70 it leaves 0 units on each line, though
   -- 3 on each would be worth as much
   pub chain_filed : Built (chain [] 160) (chain_answers []) (λ b. Filing (money_text (codes "3") chain_levels) by_money b threes filed_levels x.record_length)
-  pub sheet_cleared : ClearingSheet chain_sheet (total.Money (cents x.sheet_worth)) (comes_to (negsuc 299) 0 ∷ comes_to (pos 90) 3 ∷ comes_to (pos 480) 3 ∷ [])
-  pub sheet_at_70_cleared : ClearingSheet sheet_at_70 (total.Money (cents x.rise_at_70)) (comes_to (pos 0) 0 ∷ comes_to (pos 0) 0 ∷ comes_to (pos 0) 0 ∷ [])
+  pub sheet_cleared : ClearingSheet chain_sheet (total.Money (cents x.sheet_worth)) (chain_results x)
+  pub sheet_at_70_cleared : ClearingSheet sheet_at_70 (total.Money (cents x.rise_at_70)) (comes_to (pays (0, 0)) ∷ comes_to (pays (0, 0)) ∷ comes_to (pays (0, 0)) ∷ [])
   -- they pass, and that of the chain round does with all levels 7 higher too
   pub empty_passes : Passing empty_text (total.Money (cents x.empty_record)) []
-  pub chain_passes : Passing (money_text (codes "3") chain_levels) (total.Money (cents x.chain_record)) (comes_to (negsuc 299) 0 ∷ comes_to (pos 90) 3 ∷ comes_to (pos 480) 3 ∷ [])
-  pub raised_passes : Passing (money_text (codes "3") raised_levels) (total.Money (cents x.raised_record)) (comes_to (negsuc 299) 0 ∷ comes_to (pos 90) 3 ∷ comes_to (pos 480) 3 ∷ [])
-  pub cash_passes : Passing cash_text (total.Money (cents x.cash_record)) (comes_to (negsuc 199) 0 ∷ comes_to (pos 60) 2 ∷ comes_to (pos 320) 2 ∷ [])
-  pub no_cash_passes : Passing no_cash_text (total.Money (cents x.no_cash_record)) (comes_to (pos 0) 0 ∷ comes_to (pos 0) 0 ∷ comes_to (pos 0) 0 ∷ [])
-  pub weeks_passes : Passing weeks_text (total.MoneyThenWeeks (both x.weeks_record)) (comes_to (negsuc 299) 0 ∷ comes_to (pos 90) 3 ∷ comes_to (pos 210) 3 ∷ [])
-  pub market_passes : Passing market_text (total.Money (cents x.market_record)) (comes_to (negsuc 3999) 20 ∷ comes_to (pos 3500) 30 ∷ comes_to (negsuc 199) 30 ∷ comes_to (negsuc 4799) 0 ∷ comes_to (pos 1200) 20 ∷ comes_to (pos 5800) 40 ∷ [])
+  pub chain_passes : Passing (money_text (codes "3") chain_levels) (total.Money (cents x.chain_record)) (chain_results x)
+  pub raised_passes : Passing (money_text (codes "3") raised_levels) (total.Money (cents x.raised_record)) (chain_results x)
+  pub cash_passes : Passing cash_text (total.Money (cents x.cash_record)) (comes_to (costs (200, 0)) ∷ comes_to (pays (60, 2)) ∷ comes_to (pays (320, 2)) ∷ [])
+  pub no_cash_passes : Passing no_cash_text (total.Money (cents x.no_cash_record)) (comes_to (pays (0, 0)) ∷ comes_to (pays (0, 0)) ∷ comes_to (pays (0, 0)) ∷ [])
+  pub weeks_passes : Passing weeks_text (total.MoneyThenWeeks (both x.weeks_record)) (comes_to (costs (300, 0)) ∷ comes_to (pays (90, 3)) ∷ comes_to (pays (210, 3)) ∷ [])
+  pub market_passes : Passing market_text (total.Money (cents x.market_record)) (comes_to (costs (4000, 20)) ∷ comes_to (pays (3500, 30)) ∷ comes_to (costs (200, 30)) ∷ comes_to (costs (4800, 0)) ∷ comes_to (pays (1200, 20)) ∷ comes_to (pays (5800, 40)) ∷ [])
   -- with -79 for -80, with 2 units on each line, and with 4, it fails
   pub with_79_fails : Failing (money_text (codes "3") levels_with_79) x.refusal_with_79 0
   pub twos_fail : Failing (money_text (codes "2") chain_levels) x.refusal_of_twos 0

@@ -89,6 +89,32 @@ module _ (ls : List Arc) (ks : List (Option Step)) where
         go (s ∷ q) w h stands = omega (arith, height_is (length ks) v (s ∷ q) w (omega arith), height_is (length ks) x q (subst (λ y. Up ls ks y q) (sym (is ∙ stands.on s w.0)) w.1) (omega arith))
     less_left (inr c) = absurd (let h = c.0 in omega arith)
 
+  -- the way up from node v leaves out the goal, or what is left of it at the goal is no longer
+  fresh_or : (goal v : ℕ) (q : List Step) → Up ls ks v q → Fresh goal (line ls v q) ⊎ ((p : List Step) × Up ls ks goal p × (length p ≤ length q))
+  fresh_or goal v [] up = ⊎_elim (λ e. inr ([], subst (λ x. Up ls ks x []) (sym e) up, omega arith)) (λ d. inl (d, tt)) (cases_eq goal v)
+  fresh_or goal v (s ∷ q) up = ⊎_elim (λ e. inr (s ∷ q, subst (λ x. Up ls ks x (s ∷ q)) (sym e) up, omega arith)) (λ d. on d (fresh_or goal (tail_of ls s) q up.1)) (cases_eq goal v)
+    where
+      on : (goal ≡ v → ⊥) → Fresh goal (line ls (tail_of ls s) q) ⊎ ((p : List Step) × Up ls ks goal p × (length p ≤ length q)) → Fresh goal (line ls v (s ∷ q)) ⊎ ((p : List Step) × Up ls ks goal p × (length p ≤ length (s ∷ q)))
+      on d (inl f) = inl (d, f)
+      on d (inr z) = inr (z.0, z.1, (let h = z.2 in omega arith))
+
+  -- the way up from where the link of the goal starts does not come round to the goal
+  pub told_next : (us : List ℕ) → Paired ls ks us → (from goal : ℕ) → goal < length ks → get_or us goal 0 ≡ from → Told ls ks from goal false
+  told_next us p from goal l is q up = (λ e. fresh (link ks goal) refl, λ f. refl)
+    where
+      root : length ks ≤ from → (r : List Step) → Up ls ks from r → Fresh goal (line ls from r)
+      root h [] w = ((λ e. absurd (omega arith)), tt)
+      root h (s ∷ r) w = absurd (none_some (link ks from) s (get_or_past ks from None h) w.0)
+
+      round : (s : Step) → link ks goal ≡ Some s → (r : List Step) × Up ls ks goal r × (length r ≤ length q) → ⊥
+      round s e z =
+          let a = one_way goal z.0 (s ∷ q) z.1 (e, subst (λ x. Up ls ks x q) (sym is ∙ (p.each goal l).on s e) up) in
+          absurd (omega (arith, ap length a, z.2))
+
+      fresh : (k : Option Step) → link ks goal ≡ k → Fresh goal (line ls from q)
+      fresh None e = root (let h = (p.each goal l).off e in omega arith) q up
+      fresh (Some s) e = ⊎_elim (λ f. f) (λ z. absurd (round s e z)) (fresh_or goal from q up)
+
 -- a link set, with its entry in the row
 pub paired_set : (ls : List Arc) (ks : List (Option Step)) (us : List ℕ) (v : ℕ) (s : Step) (u : ℕ) → Paired ls ks us → u ≡ tail_of ls s → Paired ls (set ks v (Some s)) (set us v u)
 paired_set ls ks us v s u p is = record {

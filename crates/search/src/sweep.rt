@@ -101,12 +101,16 @@ impl<'a, W: Worth> Search<'a, W> {
         }
     }
 
-    // Whether the way from a node up along the links passes `goal`.
+    // Whether the way from a node up along the links passes `goal`. Where the link of `goal` starts from that node, it does not, since no way up comes
+    // round; so it is with most raises, and the way need not be gone.
     fn passes(&self, from: usize, goal: usize) -> bool
         requires rooted { Rooted self.now.net.arcs.now self.now.links.now from }
         requires inside { goal < length self.now.links.now }
         ensures { Told self.now.net.arcs.now self.now.links.now from goal result }
     {
+        if self.ups[goal] == from {
+            return false;
+        }
         let mut node = from;
         while node != goal {
             let Some(&up) = self.ups.get(node) else {

@@ -1,5 +1,5 @@
 use Rattle.std.proofs.Common.{rules, arith}
-use Rattle.search.proofs.Ways.{climb_first, climb_met, climb_end, climb_on, less_left}
+use Rattle.search.proofs.Ways.{told_next, climb_first, climb_met, climb_end, climb_on, less_left}
 use Rattle.search.proofs.sweep.Search.passes.Goals as goal
 
 pub loop-node-init : goal.loop-node-init
@@ -16,3 +16,6 @@ loop-node-preserved g c = climb_on c.args.self.now.net.arcs.now c.args.self.now.
 
 pub returns : goal.returns
 returns g c = climb_met c.args.self.now.net.arcs.now c.args.self.now.links.now c.loop-node.invariant c.loop-node-test.false c.requires.inside
+
+pub returns-then-self-goal : goal.returns-then-self-goal
+returns-then-self-goal g c = told_next c.args.self.now.net.arcs.now c.args.self.now.links.now c.args.self.now.ups.now c.args.self.now.paired c.args.from c.args.goal c.requires.inside c.if-self-goal.true

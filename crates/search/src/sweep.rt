@@ -102,7 +102,7 @@ impl<'a, W: Worth> Search<'a, W> {
     }
 
     // Whether the way from a node up along the links passes `goal`. Where the link of `goal` starts from that node, it does not, since no way up comes
-    // round; so it is with most raises, and the way need not be gone.
+    // round. So it is at most raises, and the way need not be gone.
     fn passes(&self, from: usize, goal: usize) -> bool
         requires rooted { Rooted self.now.net.arcs.now self.now.links.now from }
         requires inside { goal < length self.now.links.now }

@@ -1,4 +1,6 @@
 // The worked cases: what the rules of the exchange make of them.
 #![tactic(auto)]
 
+#[cfg(test)]
+mod by_calls;
 pub mod worked;

@@ -167,5 +167,9 @@ module _ {W : Type 0} (G : Kind W) where
         start = let a = closing.known in let b = i.arcs.long in omega arith;
       }
 
+-- begun again, or gone on
+pub run_renewed : {W : Type 0} {o : Ops W} {s t : Net} {ls : List Arc} {xs xs' : List W} {ks ks' : List (Option Step)} {us us' : List ℕ} {sum : W} {first k : ℕ} → Running o s t ls xs ks us sum first k → Paired ls ks' us' → Forest o t.nodes t.arcs xs' ks' → ((b : ℕ) → Small o b xs → Small o b xs') → Running o s t ls xs' ks' us' sum first k
+run_renewed {k = k} r p f small = record { climb = r.climb; read = r.read; paired = p; forest = f; small = small (448 * k) r.small; start = r.start }
+
 pub run_add : {W : Type 0} {o : Ops W} (laws : Laws o) {s t u : Net} {sum rise : W} → Climb o s sum t → Sound s → Sound t → Sound u → Improves o t u rise → o.size sum + o.size rise ≤ 4194304
 run_add laws {t = t} {u = u} {rise = rise} c p q z i = omega (arith, climb_small laws c p q, less_small laws t u rise q z i.rises)

@@ -144,8 +144,8 @@ paired_cut ls ks us v u p h = record {
         (cases_eq x v)
 
 -- where nothing is linked
+pub none_paired : (ls : List Arc) (ks : List (Option Step)) (us : List ℕ) → length us ≡ length ks → Unlinked ks → ((v : ℕ) → v < length ks → get_or us v 0 ≡ length ks) → Paired ls ks us
+none_paired ls ks us long unlinked all = record { long = long; each = λ v l. record { off = λ z. (let e = all v l in omega arith); on = λ t z. absurd (none_some (link ks v) t (unlinked v) z) } }
+
 pub bare_paired : (ls : List Arc) (ks : List (Option Step)) (us : List ℕ) → length ks ≡ 272 → Unlinked ks → length us ≡ 272 → ((v : ℕ) → v < 272 → get_or us v 0 ≡ 272) → Paired ls ks us
-bare_paired ls ks us wide unlinked broad all = record {
-  long = omega arith;
-  each = λ v l. record { off = λ z. (let e = all v (omega arith) in omega arith); on = λ t z. absurd (none_some (link ks v) t (unlinked v) z) };
-}
+bare_paired ls ks us wide unlinked broad all = none_paired ls ks us (omega arith) unlinked (λ v l. let e = all v (omega arith) in omega arith)

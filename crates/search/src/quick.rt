@@ -1,6 +1,8 @@
 // Cycle after cycle, with the potentials and the links kept from each to the next, since one shift leaves most of them as they were.
-// A pass over all arcs that raises nothing shows that no cycle is left.
-ghost use Rattle.std.specs.Prelude.{◌≡◌, ◌<◌, ◌≤◌, length, take, All};
+// A pass over all arcs that raises nothing shows that no cycle is left. What is kept does not always pay: a high potential that a shift leaves behind
+// can wander on along arcs of loss, one arc a pass. So once a cycle is closed, passes that close none are counted, and where they are as many as the cycles
+// the search begins again from none.
+ghost use Rattle.std.specs.Prelude.{◌≡◌, ◌<◌, ◌≤◌, ℕ, length, take, All};
 ghost use Rattle.search.specs.Outcomes.{Improves};
 ghost use Rattle.search.specs.Sweeps.{Small, Forest, Closing};
 ghost use Rattle.search.specs.Links.{head_of, Paired, OpenLinks, OpenBut};
@@ -71,6 +73,28 @@ fn pass<W: Worth>(
     Search::resume(net, potentials, links, ups).pass(first)
 }
 
+// Begins again from no potentials and no links, where the pass that closed no cycle was the last that the cycles allow.
+fn renew<W: Worth>(
+    net: Residual,
+    left: usize,
+    potentials: &mut [W],
+    links: &mut [Option<Step>],
+    ups: &mut [usize],
+)
+    requires paired { Paired net.arcs.now links.old ups.old }
+    requires forest { Forest W.ops net.nodes net.arcs.now potentials.old links.old }
+    ensures paired { Paired net.entry.arcs.now links.new ups.new }
+    ensures forest { Forest W.ops net.entry.nodes net.entry.arcs.now potentials.new links.new }
+    ensures small { (b : ℕ) → Small W.ops b potentials.old → Small W.ops b potentials.new }
+{
+    if left == 1 {
+        blank(potentials);
+        links.fill(None);
+        let none = ups.len();
+        ups.fill(none);
+    }
+}
+
 // Measures the cycle that a step closes, and puts its steps into a row.
 fn measure_closed<'a, W: Worth>(
     net: Residual<'a>,
@@ -139,6 +163,8 @@ pub(crate) fn climb_quickly<N: Improvable>(net: &mut N, potentials: &mut [N::W])
     blank(potentials);
     let mut sum = N::W::none();
     let mut first = 0;
+    // how many more passes may close no cycle before the search begins again; 0 where it has closed none since it began, and then any may
+    let mut left: usize = 0;
     for _ in 0..PASSES {
         let residual = Residual {
             nodes: potentials.len(),
@@ -149,12 +175,15 @@ pub(crate) fn climb_quickly<N: Improvable>(net: &mut N, potentials: &mut [N::W])
                 let rise = take(net, &mut table, &mut links, &mut ups, &mut steps, closing);
                 sum = sum.plus(rise);
                 first = arc_of(closing);
+                left = left.saturating_add(1);
             }
             ControlFlow::Continue(moved) => {
                 if !moved && first == 0 {
                     return Climbed::Best(sum);
                 }
                 first = 0;
+                renew(residual, left, potentials, &mut links, &mut ups);
+                left = left.saturating_sub(1);
             }
         }
     }

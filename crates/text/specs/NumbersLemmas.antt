@@ -94,11 +94,15 @@ plain_from_spells most bytes n (e, few) = subst (Plain most) (sym e) (record {
   lead = λ z. one_digit n (λ p. omega (arith, (first_digit n).1 p));
 })
 
--- and such bytes spell the number that their digits are worth
-pub spells_from_plain : (most : ℕ) (bytes : List ℕ) → Plain most bytes → digits_value 10 bytes < 2 ^ 64 → SpellsWithin most unsigned bytes (digits_value 10 bytes)
-spells_from_plain most bytes p small =
+-- and such bytes spell the number that their digits are worth, where a u64 holds it
+pub spells_from_plain_within : (most : ℕ) (bytes : List ℕ) → Plain most bytes → digits_value 10 bytes < 2 ^ 64 → SpellsWithin most unsigned bytes (digits_value 10 bytes)
+spells_from_plain_within most bytes p small =
     let e = sym (decimal_spelt (digits_value 10 bytes) small) ∙ decimal-digits_value own bytes p.all_digits p.some p.lead small in
     (sym e, subst (λ ds. length ds ≤ most) (sym e) p.short)
+
+-- as it does whatever 13 digits are worth
+pub spells_from_plain : (bytes : List ℕ) → Plain 13 bytes → Spells unsigned bytes (digits_value 10 bytes)
+spells_from_plain bytes p = spells_from_plain_within 13 bytes p (omega (arith, digits_value_short own bytes 13 p.all_digits p.short))
 
 -- one number only
 pub one_number : (bytes : List ℕ) (m n : ℕ) → Spells unsigned bytes m → Spells unsigned bytes n → m ≡ n

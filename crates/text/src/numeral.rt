@@ -7,9 +7,11 @@ use super::number::{level, number};
 use tables::refusal::Refusal;
 
 // A sort of number that rows are made of.
-pub trait Numeral: Copy + Default {
+pub trait Numeral: Copy {
     // how its numbers are spelt
     ghost notation: { Notation Self };
+
+    const ZERO: Self;
 
     // The number that the bytes spell.
     fn read(bytes: &[u8]) -> Result<Self, Refusal>
@@ -25,6 +27,8 @@ pub trait Numeral: Copy + Default {
 impl Numeral for u64 {
     ghost notation = { unsigned };
 
+    const ZERO: u64 = 0;
+
     ghost legible = { legible_unsigned };
 
     fn read(bytes: &[u8]) -> Result<u64, Refusal> {
@@ -39,6 +43,8 @@ impl Numeral for u64 {
 // Apart from `u64`, since its notation and its two calls differ, and nothing else is in either.
 impl Numeral for i64 {
     ghost notation = { signed };
+
+    const ZERO: i64 = 0;
 
     ghost legible = { legible_signed };
 

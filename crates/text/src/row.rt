@@ -15,7 +15,7 @@ impl<'a> Row<'a> {
     pub fn read<T: Numeral, const N: usize>(self) -> Result<[T; N], Refusal>
         ensures { Reads (SpellsRow T.Numeral.notation N self.entry.bytes.now) result }
     {
-        let mut numbers = [T::default(); N];
+        let mut numbers = [T::ZERO; N];
         let mut parts = self.bytes.split(|b| *b == b' ');
         for number in numbers.iter_mut() {
             *number = T::read(parts.next().ok_or(Refusal::Layout)?)?;

@@ -5,7 +5,7 @@ use std::cmp::Ordering;
 
 // A kind of worth: an ordered abelian group whose elements have a size, and the worth of one traded unit.
 // The laws hold at any size. Computing is exact while the sizes involved add up to at most 4,194,304.
-pub trait Worth: Copy + Ord {
+pub trait Worth: Copy {
     ghost ops: { Ops Self };
 
     // The worth of one unit.
@@ -41,22 +41,21 @@ pub trait Worth: Copy + Ord {
         self.plus(other.negated())
     }
 
-    // `compare` and `is_less` say the order in the words of the operations. Of a kind that is not known `Ord` alone cannot: each caller
-    // would have to cite `ordered`.
+    // How two worths lie in the order.
     fn compare(self, other: Self) -> Ordering
-        ensures { result ≡ ordering ops self other }
-    {
-        self.cmp(&other)
-    }
+        ensures { result ≡ ordering ops self other };
 
     fn is_less(self, other: Self) -> bool
         ensures { result ≡ ops.less self other }
     {
-        self < other
+        self.compare(other).is_lt()
     }
 
     ghost lawful: { Laws ops };
+}
 
-    // `Ord` orders as the operations do.
-    ghost ordered: { (x y : Self) → Self.cmp x y ≡ ordering ops x y };
+// A kind whose values `Ord` orders too, as the operations do. `Worth` itself asks for no `Ord`, so that a kind needs none; and of a kind that
+// is not known `Ord` alone would not say the order in the words of the operations, so that each caller would have to cite `ordered`.
+pub trait Ordered: Worth + Ord {
+    ghost ordered: { (x y : Self) → Self.cmp x y ≡ ordering Self.Worth.ops x y };
 }

@@ -2,7 +2,8 @@ ghost use Rattle.std.specs.Prelude.{refl};
 ghost use Rattle.worth.specs.Money.{money};
 ghost use Rattle.worth.specs.Integers.{money_laws};
 
-use super::kind::Worth;
+use super::kind::{Ordered, Worth};
+use std::cmp::Ordering;
 
 // Cents. A unit is worth its price.
 #[derive(Clone, Copy, Debug, PartialEq, Eq, PartialOrd, Ord)]
@@ -14,8 +15,6 @@ impl Worth for Money {
     ghost ops = { money };
 
     ghost lawful = { money_laws };
-
-    ghost ordered = { λ x y. refl };
 
     fn unit(price: i64, _weeks: u32) -> Money {
         Money { cents: price }
@@ -35,6 +34,10 @@ impl Worth for Money {
         Money { cents: -self.cents }
     }
 
+    fn compare(self, other: Money) -> Ordering {
+        self.cents.cmp(&other.cents)
+    }
+
     fn times(self, n: u32) -> Money {
         Money {
             cents: self.cents * i64::from(n),
@@ -45,4 +48,8 @@ impl Worth for Money {
     fn is_within(self, bound: u32) -> bool {
         self.cents.unsigned_abs() <= 1_000_000 * u64::from(bound)
     }
+}
+
+impl Ordered for Money {
+    ghost ordered = { λ x y. refl };
 }

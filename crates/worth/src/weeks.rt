@@ -2,7 +2,8 @@ ghost use Rattle.std.specs.Prelude.{refl};
 ghost use Rattle.worth.specs.Weeks.{weeks as counted};
 ghost use Rattle.worth.specs.Integers.{weeks_laws};
 
-use super::kind::Worth;
+use super::kind::{Ordered, Worth};
+use std::cmp::Ordering;
 
 // A count of weeks. A unit is worth its weeks. It is no kind of `Money`: the worth of a unit and the measure of a size differ.
 #[derive(Clone, Copy, Debug, PartialEq, Eq, PartialOrd, Ord)]
@@ -14,8 +15,6 @@ impl Worth for Weeks {
     ghost ops = { counted };
 
     ghost lawful = { weeks_laws };
-
-    ghost ordered = { λ x y. refl };
 
     fn unit(_price: i64, weeks: u32) -> Weeks {
         Weeks {
@@ -37,6 +36,10 @@ impl Worth for Weeks {
         Weeks { count: -self.count }
     }
 
+    fn compare(self, other: Weeks) -> Ordering {
+        self.count.cmp(&other.count)
+    }
+
     fn times(self, n: u32) -> Weeks {
         Weeks {
             count: self.count * i64::from(n),
@@ -46,4 +49,8 @@ impl Worth for Weeks {
     fn is_within(self, bound: u32) -> bool {
         self.count.unsigned_abs() <= u64::from(bound)
     }
+}
+
+impl Ordered for Weeks {
+    ghost ordered = { λ x y. refl };
 }

@@ -2,8 +2,9 @@ use Rattle.std.proofs.Common.{arith, sym, ◌∙◌, subst, subst₂}
 use Rattle.std.specs.declared.ops.ControlFlow.TheVariants.{Continue, Break}
 use Rattle.flow.specs.Groups.{kind}
 use Rattle.search.specs.Links.{OpenLinks, Paired}
+use Rattle.search.specs.Sweeps.{Forest}
 use Rattle.search.specs.Passes.{Passed}
-use Rattle.search.proofs.Quickly.{run_first, run_best, run_moved, run_taken, run_add}
+use Rattle.search.proofs.Quickly.{run_first, run_best, run_moved, run_taken, run_renewed, run_add}
 use Rattle.search.proofs.quick.climb_quickly.Goals as goal
 use Rattle.search.proofs.quick.climb_quickly.Goals.{in-Break, in-Continue+else-not-moved}
 
@@ -25,13 +26,17 @@ loop-preserved g c =
     elim c.match-pass.branch [
       | in-Break w ↦
           let p = subst₂ (λ n l. Passed o n l c.loop.first c.loop.potentials c.loop.links c.pass.new.potentials c.pass.new.links (Break w.in-Break.closing)) r.forest.potentials_long (c.as_slice.ensures ∙ r.read) w.in-Break.ensures.passed in
-          rw (w.net-is, w.table-is, w.links-is, w.ups-is, w.sum-is, w.first-is) (
+          rw (w.net-is, w.table-is, w.potentials-is, w.links-is, w.ups-is, w.sum-is, w.first-is) (
             run_taken K r few p.0 (g.N.Network.net w.take-rise.new.net) (g.met.N.Network.sound w.take-rise.new.net) w.in-Break.closing p.1 w.take-rise.ensures.rises w.take-rise.ensures.read w.take-rise.ensures.cut w.take-rise.ensures.paired w.plus-sum.ensures w.arc_of-first.ensures (omega arith),
             g.met.N.Improvable.onward _ _ _ c.loop.invariant.1 w.take-rise.ensures.kept,
           )
       | in-Continue+else-not-moved w ↦
           let p = subst₂ (λ n l. Passed o n l c.loop.first c.loop.potentials c.loop.links c.pass.new.potentials c.pass.new.links (Continue w.in-Continue.moved)) r.forest.potentials_long (c.as_slice.ensures ∙ r.read) w.in-Continue.ensures.passed in
-          rw (w.net-is, w.table-is, w.links-is, w.ups-is, w.sum-is, w.first-is) (run_moved K r few p.went (subst (λ l. Paired l c.pass.new.links c.pass.new.ups) c.as_slice.ensures w.in-Continue.ensures.paired) (omega arith), c.loop.invariant.1)
+          let moved = run_moved K r few p.went (subst (λ l. Paired l c.pass.new.links c.pass.new.ups) c.as_slice.ensures w.in-Continue.ensures.paired) (omega arith) in
+          rw (w.net-is, w.table-is, w.potentials-is, w.links-is, w.ups-is, w.sum-is, w.first-is) (
+            run_renewed moved (subst (λ l. Paired l w.renew.new.links w.renew.new.ups) c.as_slice.ensures w.renew.ensures.paired) (subst₂ (λ n l. Forest o n l w.renew.new.potentials w.renew.new.links) r.forest.potentials_long (c.as_slice.ensures ∙ r.read) w.renew.ensures.forest) w.renew.ensures.small,
+            c.loop.invariant.1,
+          )
     ]
 
 pub pass-requires-clause-paired : goal.pass-requires-clause-paired
